@@ -1,6 +1,5 @@
 //! Reads and writes as often as it takes.
 ghost use Rattle.std.specs.Prelude.{◌≡◌, ◌+◌, ◌<◌, ◌≤◌, length, IfOk, IfErr};
-ghost use Rattle.std.specs.Io.{ReadsAtMost};
 ghost use Rattle.std.specs.Io.KnownBytes.{ReadConsumes, WriteAppends};
 ghost use Rattle.dp_outside.specs.Streams.{PutAppends};
 ghost use Rattle.dp_adapters.specs.inner.Transfers.{Fronts};

@@ -1,6 +1,6 @@
 -- The grammar of command lines: DBGp 1.0, "Command Line Format" under "IDE to debugger engine
 -- communications"; the pairs of quoted values and repeated spaces are this engine's own.
-use Rattle.std.specs.Prelude.{◌≡◌, ℕ, ◌≤◌, true, ◌⊎◌, List, [], ◌∷◌, ◌++◌, length, Option, Some, None}
+use Rattle.std.specs.Prelude.{◌≡◌, ℕ, ◌≤◌, true, ◌⊎◌, List, [], ◌∷◌, length, Option, Some, None}
 use Rattle.base64.specs.Engines.{standard}
 use Rattle.base64.specs.GeneralPurpose.{encode_of, IsBytes}
 use Rattle.dp_value.specs.Quotes.{in_quotes}

@@ -1,6 +1,6 @@
 //! Writing a line in its canonical form.
 
-ghost use Rattle.std.specs.Prelude.{◌≡◌, ◌++◌, IfOk, OnOk, length};
+ghost use Rattle.std.specs.Prelude.{◌≡◌, ◌++◌, IfOk, OnOk};
 ghost use Rattle.std.specs.List.{flat_map};
 ghost use Rattle.dp_command.specs.Canonical as spec;
 ghost use Rattle.dp_command.specs.Canonical.{canonical, quoted, canonical_value, canonical_option, canonical_payload};

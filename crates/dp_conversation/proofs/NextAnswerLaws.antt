@@ -1,5 +1,5 @@
 -- A session that is fed goes on.
-use Rattle.std.proofs.Common.{◌≡◌, ℕ, List, [], ◌∷◌, ◌++◌, refl, sym, ap, ◌∙◌, append_assoc}
+use Rattle.std.proofs.Common.{◌≡◌, ℕ, List, [], ◌∷◌, ◌++◌, refl, ap, ◌∙◌, append_assoc}
 use Rattle.std.specs.List.{flat_map, AllByRecursion}
 use Rattle.dp_wire.specs.Frames.{IsCommand, command_frame, commands_in, rest_of}
 use Rattle.dp_wire.proofs.FrameLaws.{commands-text}

@@ -1,5 +1,5 @@
 //! What holds of sessions, whatever a command means.
-ghost use Rattle.std.specs.Prelude.{◌≡◌, List, ℕ, ◌++◌};
+ghost use Rattle.std.specs.Prelude.{List, ℕ, ◌++◌};
 ghost use Rattle.dp_conversation.specs.NextAnswer.{FeedingGoesOn};
 ghost use Rattle.dp_conversation.specs.Growth.{served, GoesOn};
 

@@ -1,5 +1,5 @@
 //! A session over a link, from its first packet to its end.
-ghost use Rattle.std.specs.Prelude.{◌≡◌, ◌<◌, ◌≤◌, [], ℕ, List, length, OnOk, OnErr, IfOk, IfErr, IsErrOf};
+ghost use Rattle.std.specs.Prelude.{◌≡◌, ◌<◌, ◌≤◌, [], ℕ, List, length, OnOk, OnErr, IfOk, IfErr};
 ghost use Rattle.dp_outside.specs.Changes.{change};
 ghost use Rattle.dp_outside.specs.Streams.{PutAppends};
 ghost use Rattle.std.specs.Io.KnownBytes.{Consumes};

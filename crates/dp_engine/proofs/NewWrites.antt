@@ -10,7 +10,7 @@ use Rattle.dp_features.specs.Features.{Features}
 use Rattle.dp_meaning.specs.declared.writes.NumberedWrite.{NumberedWrite}
 use Rattle.dp_meaning.specs.declared.writes.Write.{Write}
 use Rattle.dp_meaning.specs.Trace.{moment_at, program_trace}
-use Rattle.dp_meaning.specs.Writes.{evaluation_setting, of_number, one_write, written_by}
+use Rattle.dp_meaning.specs.Writes.{evaluation_setting, of_number, one_write}
 use Rattle.dp_meaning_laws.specs.Past.{AgreeBelow}
 use Rattle.dp_meaning_laws.proofs.PastLaws.{past_stands}
 use Rattle.dp_packet.specs.declared.packet.Response.{Response}

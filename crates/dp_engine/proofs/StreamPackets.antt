@@ -1,5 +1,5 @@
 -- The packets in which output goes to the IDE.
-use Rattle.std.proofs.Common.{◌≡◌, ℕ, zero, suc, ◌+◌, ◌-◌, ◌/◌, ◌*◌, ◌≤◌, ◌<◌, List, [], ◌∷◌, ◌++◌, length, take, drop, replicate, refl, sym, ap, subst, ◌∙◌, arith, length-append, length-drop, append_assoc}
+use Rattle.std.proofs.Common.{◌≡◌, ℕ, zero, suc, ◌+◌, ◌-◌, ◌/◌, ◌*◌, ◌≤◌, ◌<◌, List, [], ◌∷◌, ◌++◌, length, take, drop, replicate, sym, ap, subst, ◌∙◌, arith, length-append, length-drop, append_assoc}
 use Rattle.std.specs.Prelude.{map, Result, Ok, Err, IfOk}
 use Rattle.std.specs.List.{AllByRecursion}
 use Rattle.std.proofs.lemmas.List.{length-replicate}
@@ -16,7 +16,7 @@ use Rattle.dp_packet.specs.Text.{text}
 use Rattle.dp_packet.proofs.LengthLaws.{packet_short, packet_some, text_short, written_short}
 use Rattle.dp_wire.specs.Frames.{IsPacketText, packet_limit}
 use Rattle.dp_engine.specs.Answers.{to_ide}
-use Rattle.dp_engine.specs.Responses.{first_pieces, pieces, stream_size, streams}
+use Rattle.dp_engine.specs.Responses.{first_pieces, stream_size, streams}
 
 -- ---- one packet
 

@@ -1,6 +1,6 @@
 -- What a command that writes is answered, however long its name and id are: no error where a response is made, and else
 -- a code that has a message.
-use Rattle.std.proofs.Common.{◌≡◌, ◌≢◌, ℕ, Bool, true, false, cond, [], Option, Some, None, Result, Ok, Err, nat_le, length, refl, ap, subst, arith}
+use Rattle.std.proofs.Common.{◌≡◌, ◌≢◌, ℕ, Bool, true, false, cond, [], Result, Ok, Err, nat_le, length, refl, ap, subst, arith}
 use Rattle.dp_command.specs.declared.command.Request.{Request}
 use Rattle.dp_features.specs.Features.{Features}
 use Rattle.dp_meaning.specs.declared.writes.Write.{Write}

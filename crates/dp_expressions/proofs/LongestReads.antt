@@ -5,15 +5,13 @@ use Rattle.dp_lexer.specs.declared.token.Token.{Token}
 use Rattle.dp_expressions.specs.declared.operand.Part.{Part}
 use Rattle.dp_expressions.specs.declared.operand.Part.TheVariants as part
 use Rattle.dp_grammar.specs.declared.refusal.Refusal.TheVariants.{Unexpected, TooDeep, Memory}
-use Rattle.dp_token_rules.specs.declared.terminal.Terminal.{Terminal}
 use Rattle.dp_token_rules.specs.declared.terminal.Terminal.TheVariants as terminal
 use Rattle.dp_tree.specs.declared.tree.Expression.{Expression}
-use Rattle.dp_tree.specs.declared.tree.Place.{Place}
 use Rattle.dp_grammar.specs.Rules.{head as first}
 use Rattle.dp_token_rules.specs.Terminals.{terminal_of, is, head}
 use Rattle.dp_token_rules.specs.Refused.{IsViable, IsDeadAt, IsUnexpected, IsTooDeep}
 use Rattle.dp_token_rules.specs.inner.Input.{Outcome, Reader}
-use Rattle.dp_token_rules.proofs.Answers.{Rules, Stop, Begins, IsRead, IsRefused, Agrees, Answers, StartsIn}
+use Rattle.dp_token_rules.proofs.Answers.{Rules, Stop, Begins, IsRead, IsRefused, Agrees, Answers}
 use Rattle.dp_token_rules.proofs.More.{level_self}
 use Rattle.dp_expressions.specs.Grammar.{inner, IsPlace}
 use Rattle.dp_expressions.specs.Longest.{IsLongest, IsReadBy, rule_of, may_read}

@@ -1,6 +1,6 @@
 //! Trees of their parts.
 
-ghost use Rattle.std.specs.Prelude.{◌≡◌, ◌++◌, ◌∷◌, [], IfOk};
+ghost use Rattle.std.specs.Prelude.{◌≡◌, IfOk};
 ghost use Rattle.dp_expressions.specs.Grammar as grammar;
 ghost use Rattle.dp_expressions.specs.inner.Readers as spec;
 

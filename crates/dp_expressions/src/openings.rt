@@ -1,6 +1,6 @@
 //! What expressions begin with.
 
-ghost use Rattle.std.specs.Prelude.{◌≡◌, ◌<◌, []};
+ghost use Rattle.std.specs.Prelude.{◌<◌, []};
 ghost use Rattle.dp_token_rules.specs.inner.Input.{Reads, closed};
 ghost use Rattle.dp_expressions.specs.inner.Readers as spec;
 ghost use Rattle.dp_expressions.specs.inner.Readers.{within};

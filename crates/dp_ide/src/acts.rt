@@ -1,5 +1,5 @@
 //! The instruction of a line.
-ghost use Rattle.std.specs.Prelude.{◌≡◌, ◌≢◌, ◌↔◌, ◌++◌, ℕ, List, IfOk, IsTrue, MatchOption, codes, option_map};
+ghost use Rattle.std.specs.Prelude.{◌↔◌, ◌++◌, IfOk, IsTrue, codes, option_map};
 ghost use Rattle.dp_wire.specs.Frames.{IsCommand};
 ghost use Rattle.dp_ide.specs.Scripts.{ActLine};
 ghost use Rattle.dp_ide.specs.inner.Readers.{IsNamed, Reads};

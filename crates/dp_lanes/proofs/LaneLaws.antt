@@ -1,11 +1,10 @@
 -- A lane of either kind.
-use Rattle.std.proofs.Common.{◌≡◌, ◌↔◌, ℕ, ◌+◌, ◌-◌, ◌<◌, ◌≤◌, List, [], ◌∷◌, ◌++◌, Option, Some, None, Result, Ok, Err, IfOk, length, take, drop, slice_range, decimal}
-use Rattle.std.proofs.Common.{refl, sym, ap, subst, ◌∙◌, arith, length-append, length-drop, length-take}
+use Rattle.std.proofs.Common.{◌≡◌, ℕ, ◌+◌, ◌-◌, ◌<◌, ◌≤◌, List, [], ◌∷◌, ◌++◌, Option, Some, None, Result, Ok, Err, IfOk, length, take, drop, slice_range, decimal}
+use Rattle.std.proofs.Common.{sym, ap, subst, ◌∙◌, arith, length-append, length-drop, length-take}
 use Rattle.std.specs.Option.{IfSome}
 use Rattle.dp_wire.specs.declared.errors.WireError.{WireError}
 use Rattle.dp_wire.specs.Frames.{BeginsPacket, BeginsCommand, packet_frame, command_frame, packets_in, commands_in}
 use Rattle.dp_wire.specs.Received.{Received}
-use Rattle.dp_wire.proofs.PacketLaws.{frame_length}
 use Rattle.dp_lanes.specs.declared.lane.Lane.{Lane}
 use Rattle.dp_lanes.specs.declared.lane.LaneKind.{LaneKind}
 use Rattle.dp_lanes.specs.declared.lane.LaneKind.TheVariants.{Up, Down}

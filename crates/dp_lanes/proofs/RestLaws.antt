@@ -1,17 +1,16 @@
 -- What is left behind the whole frames is bad exactly where no frame begins it.
-use Rattle.std.proofs.Common.{◌≡◌, ◌≢◌, ◌⊎◌, ℕ, zero, suc, ◌+◌, ◌-◌, ◌^◌, ◌<◌, ◌≤◌, ◌==◌, Bool, true, false, not, ◌&&◌, nat_le, List, [], ◌∷◌, ◌++◌}
+use Rattle.std.proofs.Common.{◌≡◌, ◌≢◌, ◌⊎◌, ℕ, zero, suc, ◌+◌, ◌-◌, ◌<◌, ◌≤◌, ◌==◌, Bool, true, false, ◌&&◌, nat_le, List, [], ◌∷◌, ◌++◌}
 use Rattle.std.proofs.Common.{length, take, drop, decimal, refl, sym, ap, subst, ◌∙◌, inl, inr, append_assoc, append-nil, arith, length-append, length-drop}
-use Rattle.std.proofs.lemmas.Bool.{and_parts, and_from, cases_lt, eqb-true, leb-true, le-leb, false_from_ne_true, false≢true}
+use Rattle.std.proofs.lemmas.Bool.{and_parts, cases_lt, eqb-true, leb-true, le-leb, false_from_ne_true, false≢true}
 use Rattle.std.proofs.lemmas.Fmt.{decimal_digit}
-use Rattle.std.proofs.lemmas.List.{take_at, drop_at, drop_all, take-append-drop, length-take-le}
+use Rattle.std.proofs.lemmas.List.{take_at, drop_all, take-append-drop, length-take-le}
 use Rattle.std.proofs.lemmas.Str.Parse.{digits_value-take-le}
 use Rattle.std.proofs.Math.Seq.{drop-append-add}
 use Rattle.std.specs.Str.Parse.{digits_value}
 use Rattle.dp_value.specs.IntText.{is_positive}
 use Rattle.dp_wire.specs.Frames.{has_no_nul, up_to_nul, IsCommand, command_frame, command_limit, IsPartialCommand, BeginsNoCommand}
 use Rattle.dp_wire.specs.Frames.{IsPacketText, packet_frame, packet_limit, IsPartialPacket, BeginsPacket, BeginsNoPacket}
-use Rattle.dp_wire.specs.Received.{length_digits}
-use Rattle.dp_wire.proofs.FrameLaws.{no_nul-head, no_nul-tail, no_nul-at, no_nul-here, same_text, partial_front}
+use Rattle.dp_wire.proofs.FrameLaws.{no_nul-head, no_nul-tail, no_nul-here, same_text, partial_front}
 use Rattle.dp_wire.proofs.SplitLaws.{framed}
 use Rattle.dp_wire.proofs.PacketLaws.{packed, value-decimal, decimal-no_nul}
 use Rattle.dp_wire.proofs.LengthLaws.{begins_refused, partial_refused, unfinished_partial, known_partial, length_digits-some}

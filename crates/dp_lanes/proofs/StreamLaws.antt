@@ -1,12 +1,11 @@
 -- A stream is cut in one way, in whatever pieces it comes: for both lanes.
-use Rattle.std.proofs.Common.{◌≡◌, ◌⊎◌, ℕ, ◌+◌, ◌<◌, ◌≤◌, min, Bool, true, false, not, List, [], ◌∷◌, ◌++◌, Option, Some, None, length, drop, flat_map}
+use Rattle.std.proofs.Common.{◌≡◌, ℕ, ◌+◌, ◌<◌, ◌≤◌, min, true, false, not, List, [], ◌∷◌, ◌++◌, length, drop, flat_map}
 use Rattle.std.proofs.Common.{refl, sym, ap, subst, ◌∙◌, inl, inr, append_assoc, append-nil, arith, length-append}
 use Rattle.std.proofs.lemmas.List.Concat.{flat_map-append}
 use Rattle.std.proofs.Math.Seq.{drop-append_seam}
 use Rattle.std.specs.List.{AllByRecursion}
 use Rattle.dp_wire.specs.declared.errors.WireError.{WireError}
-use Rattle.dp_wire.specs.declared.errors.WireError.TheVariants.{TooLong}
-use Rattle.dp_wire.specs.Frames.{Splits, has_no_nul, packets_in, commands_in, rest_of, rest_of_packets}
+use Rattle.dp_wire.specs.Frames.{Splits, has_no_nul, rest_of, rest_of_packets}
 use Rattle.dp_wire.specs.Places.{refused_at}
 use Rattle.dp_wire.specs.Received.{Received, last_place}
 use Rattle.dp_wire.proofs.FrameLaws.{no_nul-at, partial_front}

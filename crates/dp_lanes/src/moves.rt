@@ -1,5 +1,5 @@
 //! What a lane hands out of the bytes that come in it, and where it is bad.
-ghost use Rattle.std.specs.Prelude.{◌≡◌, ℕ, List, IfOk, OnOk};
+ghost use Rattle.std.specs.Prelude.{ℕ, List, IfOk, OnOk};
 ghost use Rattle.dp_lanes.specs.declared.lane.LaneKind.{LaneKind as Kind};
 ghost use Rattle.dp_lanes.specs.Places.{Carries, Follows, IsBadPlace};
 ghost use Rattle.dp_lanes.specs.inner.Deliveries.{HandsAll};

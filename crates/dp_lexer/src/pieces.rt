@@ -1,6 +1,5 @@
 //! The next piece of a text.
 
-ghost use Rattle.std.specs.Prelude.{◌≡◌};
 ghost use Rattle.dp_lexer.specs.inner.Lexer as spec;
 ghost use Rattle.dp_lexer.specs.inner.Lexer.{Finds};
 

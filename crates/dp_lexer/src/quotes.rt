@@ -1,6 +1,6 @@
 //! Texts in quotes: where they end, and the bytes that they stand for.
 
-ghost use Rattle.std.specs.Prelude.{◌≡◌, ◌==◌, ◌&&◌, ◌||◌, ◌≤◌, ◌<◌, ◌+◌, ◌++◌, ◌%◌, ◌^◌, length, Some, IfSome, IfErr};
+ghost use Rattle.std.specs.Prelude.{◌≡◌, ◌==◌, ◌&&◌, ◌||◌, ◌≤◌, ◌<◌, ◌+◌, ◌++◌, ◌%◌, length, Some, IfSome, IfErr};
 ghost use Rattle.std.specs.Prelude.{IfOk, OnOk};
 ghost use Rattle.dp_lexer.specs.Bytes as sorts;
 ghost use Rattle.dp_lexer.specs.Bytes.{Each, value_in};

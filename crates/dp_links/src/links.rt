@@ -1,5 +1,5 @@
 //! Links that come back.
-ghost use Rattle.std.specs.Prelude.{◌≡◌, ◌↔◌, ◌+◌, ◌<◌, IsTrue};
+ghost use Rattle.std.specs.Prelude.{◌↔◌, ◌+◌, ◌<◌, IsTrue};
 
 use dp_outside::{ByteSink, ByteSource};
 

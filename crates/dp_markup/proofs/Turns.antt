@@ -1,5 +1,5 @@
 -- A recursion on a count of turns, beside a loop that counts up.
-use Rattle.std.proofs.Common.{◌≡◌, ℕ, suc, ◌+◌, ◌-◌, ◌<◌, ◌≤◌, List, ◌∷◌, length, get_or, drop, drop-cons, Ok, ap, ◌∙◌, arith}
+use Rattle.std.proofs.Common.{◌≡◌, ℕ, suc, ◌+◌, ◌<◌, List, ◌∷◌, length, get_or, drop, drop-cons, Ok, ap, ◌∙◌, arith}
 use Rattle.dp_markup.specs.inner.Input.{and_then, mark, word}
 pub use Rattle.dp_grammar.proofs.Turns.{one_turn, no_turn}
 

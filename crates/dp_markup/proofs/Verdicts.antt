@@ -1,10 +1,9 @@
 -- What `read` and `head_attribute` say of the bytes, by the outcome of the reader.
-use Rattle.std.proofs.Common.{◌≡◌, ◌⊎◌, inl, inr, ℕ, ◌-◌, ◌<◌, ◌≤◌, [], ◌++◌, length, Ok, Err, sym, refl, ap, ◌∙◌, subst, append-nil, arith}
+use Rattle.std.proofs.Common.{◌≡◌, ◌⊎◌, inl, inr, ℕ, ◌-◌, ◌<◌, ◌≤◌, [], length, Ok, Err, sym, refl, ap, ◌∙◌, subst, append-nil, arith}
 use Rattle.dp_grammar.specs.declared.refusal.Refusal.{Refusal}
 use Rattle.dp_grammar.specs.declared.refusal.Refusal.TheVariants.{Unexpected, TooDeep, Memory}
 use Rattle.dp_markup.specs.declared.tree.Element.{Element}
 use Rattle.dp_markup.specs.declared.states.StartTag.{StartTag}
-use Rattle.dp_markup.specs.inner.Input.{head}
 use Rattle.dp_markup.specs.Grammar.{Text, Document, limit, IsMarkup, Head, BeginsWithHead, heads}
 use Rattle.dp_markup.specs.inner.Readers.{document, head_of}
 use Rattle.dp_markup.specs.inner.Search.{sought_head}

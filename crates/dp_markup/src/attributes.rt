@@ -5,7 +5,6 @@ ghost use Rattle.dp_markup.specs.Grammar as grammar;
 ghost use Rattle.dp_markup.specs.inner.Input.{Reads, closed, head, next};
 ghost use Rattle.dp_markup.specs.inner.Readers as spec;
 
-use crate::Memory;
 use crate::found::Found;
 use crate::input::Input;
 use crate::lists::Growing;

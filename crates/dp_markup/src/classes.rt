@@ -3,8 +3,6 @@
 ghost use Rattle.std.specs.Prelude.{◌≡◌};
 ghost use Rattle.dp_markup.specs.Classes as class;
 
-use crate::states::Radix;
-
 /// White space of markup: space, tab, line feed, carriage return.
 pub(crate) fn is_white(byte: u8) -> bool
     ensures { result ≡ class.is_white byte }

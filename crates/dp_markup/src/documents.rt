@@ -1,7 +1,7 @@
 //! Whole texts.
 
-ghost use Rattle.std.specs.Prelude.{◌≡◌, true};
-ghost use Rattle.dp_markup.specs.inner.Input.{Reads, ReadsSlice, closed};
+ghost use Rattle.std.specs.Prelude.{true};
+ghost use Rattle.dp_markup.specs.inner.Input.{Reads, ReadsSlice};
 ghost use Rattle.dp_markup.specs.inner.Readers as spec;
 
 use crate::elements::opened;

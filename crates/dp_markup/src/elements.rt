@@ -1,6 +1,6 @@
 //! Elements and what stands in them.
 
-ghost use Rattle.std.specs.Prelude.{◌≡◌, ◌++◌, ◌∷◌, [], IfOk};
+ghost use Rattle.std.specs.Prelude.{◌≡◌, IfOk};
 ghost use Rattle.dp_markup.specs.Grammar as grammar;
 ghost use Rattle.dp_markup.specs.inner.Input.{Reads, closed, made};
 ghost use Rattle.dp_markup.specs.inner.Readers as spec;
@@ -12,7 +12,6 @@ use crate::lists::Growing;
 use crate::states::{Content, StartTag};
 use crate::tree::{Element, Node};
 use dp_grammar::Refusal;
-use dp_value::Items;
 use std::alloc::Global;
 use std::ops::ControlFlow;
 

@@ -1,8 +1,6 @@
 //! Reading bytes as markup.
 
-ghost use Rattle.std.specs.Prelude.{◌≡◌, ◌≢◌, ◌⊎◌, ◌≤◌, ◌-◌, ℕ, length, IfOk, MatchResult};
-ghost use Rattle.dp_markup.specs.inner.Input.{Reads};
-ghost use Rattle.dp_markup.specs.inner.Readers as spec;
+ghost use Rattle.std.specs.Prelude.{◌≡◌, ◌≢◌, ◌-◌, ℕ, IfOk};
 ghost use Rattle.dp_markup.specs.Grammar.{IsMarkup, Document, limit};
 ghost use Rattle.dp_markup.specs.Grammar.{BeginsWithHead, heads, root_value};
 ghost use Rattle.dp_markup.specs.Readable.{IsReadable};

@@ -1,6 +1,6 @@
 //! References to bytes.
 
-ghost use Rattle.std.specs.Prelude.{◌≡◌, ◌+◌, ◌-◌, ◌≤◌, length};
+ghost use Rattle.std.specs.Prelude.{◌≡◌, ◌+◌, ◌-◌};
 ghost use Rattle.dp_markup.specs.Classes as class;
 ghost use Rattle.dp_markup.specs.Rules.{passing};
 ghost use Rattle.dp_markup.specs.inner.Input.{Reads, closed, one};

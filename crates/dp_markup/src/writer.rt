@@ -1,6 +1,6 @@
 //! Writing elements in one form.
 
-ghost use Rattle.std.specs.Prelude.{◌≡◌, ◌++◌, ◌<◌, ◌^◌, ◌∷◌, [], IfOk, OnOk, codes, length};
+ghost use Rattle.std.specs.Prelude.{◌≡◌, ◌++◌, ◌<◌, IfOk, OnOk};
 ghost use Rattle.std.specs.List.{flat_map};
 ghost use Rattle.dp_markup.specs.Escapes.{decimal, escaped, escaped_all, plain_or_number};
 ghost use Rattle.dp_markup.specs.Texts.{attribute_text, node_text, nodes_text, written};

@@ -15,8 +15,7 @@ impl<O: Outside> Evaluator<'_, O> {
     ghost use Rattle.dp_meaning.specs.inner.Evaluation.{goes_by};
     ghost use Rattle.dp_actions.specs.inner.Bases.{base_run, entry_under};
     ghost use Rattle.dp_actions.specs.InPlace.{entries_by};
-    ghost use Rattle.dp_actions.specs.Expressions.{entry_run, expression_run, indices_run};
-    ghost use Rattle.dp_actions.specs.Places.{variable};
+    ghost use Rattle.dp_actions.specs.Expressions.{expression_run, indices_run};
 
     /// The value of an expression under indices. Nothing is copied but the entry that is read.
     #[cycle(evaluate)]

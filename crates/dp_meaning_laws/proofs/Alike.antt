@@ -1,6 +1,6 @@
 -- Two runs that go alike: what is kept by each step of a program is true at each of their moments and at their ends,
 -- and they differ at most in where they are over by the bound.
-use Rattle.std.proofs.Common.{◌≡◌, ℕ, zero, suc, ◌+◌, ◌<◌, ◌≤◌, Bool, true, false, List, [], ◌∷◌, ◌++◌, length, map, Option, Some, None, Result, Ok, Err, refl, sym, ap, subst, arith}
+use Rattle.std.proofs.Common.{◌≡◌, ℕ, ◌+◌, ◌<◌, ◌≤◌, Bool, true, false, List, length, Option, Some, Result, Ok, Err, refl, subst, arith}
 use Rattle.std.specs.Prelude.{if◌then◌else◌, slice_get}
 use Rattle.dp_tree.specs.CodeLines.{file_lines}
 use Rattle.dp_tree.specs.declared.bundle.Bundle.{Bundle}
@@ -21,7 +21,7 @@ use Rattle.dp_state.specs.declared.state.State.{State}
 use Rattle.dp_state.specs.Functions.{called, included}
 use Rattle.dp_state.specs.Places.{assigned, unset, with_global}
 use Rattle.dp_state.specs.States.{printed, left}
-use Rattle.dp_actions.specs.Run.{Run, Done, Over, At, and_then, fatal, taken}
+use Rattle.dp_actions.specs.Run.{Run, Done, Over, At, and_then, taken}
 use Rattle.dp_actions.specs.Setting.{Setting, Part}
 use Rattle.dp_actions.specs.Values.{value_run, builtin_run, write_run}
 use Rattle.dp_meaning_laws.proofs.Each.{Each}

@@ -1,5 +1,5 @@
 -- What is kept by each step of a program is kept by expressions.
-use Rattle.std.proofs.Common.{◌≡◌, ℕ, ◌+◌, Bool, true, false, if◌then◌else◌, List, [], ◌∷◌, map, Option, Some, None, Result, refl, sym, ap, ◌∙◌, subst}
+use Rattle.std.proofs.Common.{◌≡◌, Bool, true, false, List, [], ◌∷◌, map, Option, Some, None, Result, refl, sym, subst}
 use Rattle.dp_tree.specs.declared.bundle.Bundle.{Bundle}
 use Rattle.dp_value.specs.declared.errors.ValueError.{ValueError}
 use Rattle.dp_value.specs.declared.value.Value.{Value}
@@ -21,13 +21,12 @@ use Rattle.dp_tree.specs.declared.tree.Link.{Link, map-Link, roll-Link}
 use Rattle.dp_tree.specs.declared.tree.Operator.{Operator}
 use Rattle.dp_tree.specs.declared.tree.Operator.TheVariants.{Or, And, Of}
 use Rattle.dp_tree.specs.declared.tree.Place.{Place, map-Place, roll-Place, ind-Place}
-use Rattle.dp_actions.specs.Expressions.{ExpressionRun, ItemRun, LinkRun, values_run, indices_run, links_run, items_run, operator_run, item_run, choice, conditional, coalesced, chained, operated, included, plain, place_layer, item_layer, link_layer, expression_layer, expression_run, place_run, evaluation, evaluations}
+use Rattle.dp_actions.specs.Expressions.{ExpressionRun, ItemRun, LinkRun, values_run, indices_run, links_run, items_run, operator_run, item_run, choice, conditional, coalesced, chained, operated, included, plain, place_layer, item_layer, link_layer, expression_layer, expression_run, place_run, evaluations}
 use Rattle.dp_actions.specs.Expressions.{item_run_of, link_run}
-use Rattle.dp_actions.specs.Calls.{include_run}
 use Rattle.dp_actions.specs.Places.{PlaceRun, variable}
-use Rattle.dp_actions.specs.Run.{Run, Done, and_then}
+use Rattle.dp_actions.specs.Run.{Done}
 use Rattle.dp_actions.specs.Setting.{Setting, Part}
-use Rattle.dp_actions.specs.Values.{value_run, write_run, holds, is_missing}
+use Rattle.dp_actions.specs.Values.{holds, is_missing}
 use Rattle.dp_meaning_laws.proofs.Alike.{AreAlike, Facts, IsKept, KeepsPart, Keeps-and_then, Keeps-value, Keeps-write, Alike-if}
 use Rattle.dp_meaning_laws.proofs.Each.{Each, each-images}
 use Rattle.dp_meaning_laws.proofs.AlikeCalls.{Keeps-named, Keeps-include}

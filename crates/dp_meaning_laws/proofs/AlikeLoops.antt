@@ -1,6 +1,6 @@
 -- What is kept by each step of a program is kept by loops.
-use Rattle.std.proofs.Common.{◌≡◌, ℕ, zero, suc, ◌+◌, ◌-◌, ◌≤◌, Bool, true, false, List, [], ◌∷◌, Option, Some, None, refl, sym, subst, arith}
-use Rattle.std.specs.Prelude.{nat_le, if◌then◌else◌}
+use Rattle.std.proofs.Common.{◌≡◌, ℕ, zero, suc, ◌+◌, ◌≤◌, false, List, [], ◌∷◌, Option, Some, None, refl, sym, subst, arith}
+use Rattle.std.specs.Prelude.{nat_le}
 use Rattle.dp_tree.specs.declared.bundle.Bundle.{Bundle}
 use Rattle.dp_value.specs.declared.key.Key.{Key}
 use Rattle.dp_value.specs.declared.value.Value.{Value}
@@ -15,7 +15,7 @@ use Rattle.dp_actions.specs.declared.signal.Signal.TheVariants.{Next, Break, Con
 use Rattle.dp_actions.specs.Loops.{after_body, last_holds, turns, do_turns, bind_name, bind_key, bind, each_run}
 use Rattle.dp_actions.specs.Run.{Run, Done, Over, At, and_then}
 use Rattle.dp_actions.specs.Values.{holds}
-use Rattle.dp_meaning_laws.proofs.Alike.{Alike, Facts, IsKept, Keeps, Stands, Keeps-and_then, Alike-and_then, Alike-if, Alike-taken}
+use Rattle.dp_meaning_laws.proofs.Alike.{Alike, Facts, IsKept, Keeps, Keeps-and_then, Alike-and_then, Alike-if, Alike-taken}
 
 -- A run that begins with a moment, if it is not over or done at once with nothing changed.
 abbrev pub IsStill : State → Run Signal → Type 0

@@ -1,22 +1,16 @@
 -- What is kept by each step of a program is kept by what is done with places.
-use Rattle.std.proofs.Common.{◌≡◌, ℕ, suc, ◌+◌, Bool, true, false, List, [], ◌∷◌, map, Option, Some, None, Result, Ok, Err, refl}
-use Rattle.std.specs.Prelude.{is_some}
-use Rattle.std.specs.List.{list_all}
+use Rattle.std.proofs.Common.{ℕ, Bool, false, List, [], ◌∷◌, map, refl}
 use Rattle.dp_tree.specs.declared.bundle.Bundle.{Bundle}
 use Rattle.dp_value.specs.declared.operators.BinaryOp.{BinaryOp}
 use Rattle.dp_value.specs.declared.operators.UnaryOp.{UnaryOp}
 use Rattle.dp_value.specs.declared.value.Value.{Value}
-use Rattle.dp_value.specs.declared.value.Value.TheVariants.{Bool as Truth}
 use Rattle.dp_value.specs.Value.{data_of}
 use Rattle.dp_operations.specs.Binary.{binary_of}
 use Rattle.dp_operations.specs.Indices.{found_by, indexed_by}
 use Rattle.dp_operations.specs.Unary.{unary_of}
-use Rattle.dp_state.specs.declared.moments.FatalKind.TheVariants.{BadKey}
-use Rattle.dp_state.specs.declared.state.State.{State}
 use Rattle.dp_state.specs.Places.{keys_of_indices}
 use Rattle.dp_tree.specs.declared.tree.Order.{Order}
-use Rattle.dp_actions.specs.Places.{PlaceRun, variable, read_run, found_run, assign_run, assignment, compound, coalescing, step, stepped, isset_run, unset_run}
-use Rattle.dp_actions.specs.Run.{Run, Done, fatal, and_then}
+use Rattle.dp_actions.specs.Places.{PlaceRun, variable, read_run, found_run, assign_run, assignment, compound, coalescing, step, isset_run, unset_run}
 use Rattle.dp_actions.specs.Setting.{Setting, Part}
 use Rattle.dp_actions.specs.Values.{is_missing}
 use Rattle.dp_meaning_laws.proofs.Alike.{Facts, IsKept, Keeps, KeepsPart, Keeps-and_then, Keeps-value, Alike-if, Alike-taken}

@@ -1,5 +1,5 @@
 -- What is kept by each step of a program is true at each of its moments and at its end.
-use Rattle.std.proofs.Common.{◌≡◌, ℕ, zero, suc, ◌+◌, ◌<◌, ◌≤◌, pos, List, [], length, Option, Some, None, Result, Ok, Err, refl, sym, subst}
+use Rattle.std.proofs.Common.{◌≡◌, ℕ, zero, suc, ◌+◌, ◌<◌, ◌≤◌, pos, List, [], length, Option, Some, None, refl, sym, subst}
 use Rattle.std.specs.Option.{option_map_or}
 use Rattle.std.specs.Prelude.{slice_get}
 use Rattle.dp_tree.specs.CodeLines.{body_lines}
@@ -11,7 +11,6 @@ use Rattle.dp_value.specs.declared.value.Value.TheVariants.{Int}
 use Rattle.dp_state.specs.declared.state.State.{State}
 use Rattle.dp_state.specs.Functions.{called, included}
 use Rattle.dp_state.specs.States.{frame_limit, left, opening}
-use Rattle.dp_actions.specs.declared.signal.Signal.{Signal}
 use Rattle.dp_meaning.specs.Programs.{function_run, file_run, setting_of, program_run}
 use Rattle.dp_actions.specs.Bodies.{returned, statements_of}
 use Rattle.dp_actions.specs.Run.{Run, Done, and_then, taken}

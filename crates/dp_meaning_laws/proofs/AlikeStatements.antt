@@ -1,5 +1,5 @@
 -- What is kept by each step of a program is kept by statements.
-use Rattle.std.proofs.Common.{◌≡◌, ℕ, zero, suc, ◌+◌, ◌≤◌, Bool, true, false, if◌then◌else◌, List, [], ◌∷◌, map, Option, Some, None, ℤ, Result, Ok, Err, pos, negsuc, refl, sym, subst, arith}
+use Rattle.std.proofs.Common.{◌≡◌, ℕ, zero, suc, ◌+◌, ◌≤◌, Bool, true, false, if◌then◌else◌, List, [], ◌∷◌, map, Option, Some, None, ℤ, pos, negsuc, refl, sym, subst, arith}
 use Rattle.std.proofs.lemmas.Bool.Decides.{nat_tests}
 use Rattle.std.specs.List.{flat_map}
 use Rattle.std.specs.Prelude.{nat_le}
@@ -25,9 +25,8 @@ use Rattle.dp_tree.specs.declared.tree.StatementKind.TheFolds.{fold-roll-Stateme
 use Rattle.dp_tree.specs.declared.tree.StatementKind.TheOpen.{Statement-F, StatementKind-F, Arm-F}
 use Rattle.dp_actions.specs.declared.signal.Signal.{Signal}
 use Rattle.dp_actions.specs.declared.signal.Signal.TheVariants.{Next, Break, Continue, Return}
-use Rattle.dp_actions.specs.Expressions.{ExpressionRun, expression_run, evaluation, evaluations, place_run}
+use Rattle.dp_actions.specs.Expressions.{expression_run, evaluation, evaluations, place_run}
 use Rattle.dp_actions.specs.Loops.{do_turns, entries, after_body, turns}
-use Rattle.dp_actions.specs.Places.{unset_run}
 use Rattle.dp_actions.specs.Run.{Run, Done, Over, At, and_then, taken}
 use Rattle.dp_actions.specs.Setting.{Setting, Part}
 use Rattle.dp_meaning.specs.Statements.{KindRun, ArmRun, go_on, placed, sequence, echoes, arms_run, return_run, end_run, kind_layer, arm_layer, statement_layer, statement_run, body_run}

@@ -1,6 +1,6 @@
 -- What is kept by each step of a program is true at each moment of its run and at its end, and an exit has one of 200
 -- statuses.
-use Rattle.std.proofs.Common.{◌≡◌, ℕ, ◌+◌, ◌<◌, ◌≤◌, Bool, List, length, Option, Result, Ok}
+use Rattle.std.proofs.Common.{◌≡◌, ℕ, ◌+◌, ◌<◌, ◌≤◌, Bool, List, length, Option, Ok}
 use Rattle.dp_tree.specs.declared.bundle.Bundle.{Bundle}
 use Rattle.dp_tree.specs.declared.tree.Function.{Function}
 use Rattle.dp_value.specs.declared.key.Key.{Key}

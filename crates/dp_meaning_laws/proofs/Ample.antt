@@ -1,43 +1,29 @@
 -- Loops with as many turns as moments may come, and calls with as many frames as may be on the stack, go as with more
 -- of them.
-use Rattle.std.proofs.Common.{◌≡◌, ℕ, zero, suc, ◌+◌, ◌<◌, ◌≤◌, Bool, true, false, if◌then◌else◌, List, [], ◌∷◌, ◌++◌, length, Option, Some, None, refl, sym, ap, ◌∙◌, subst, arith}
+use Rattle.std.proofs.Common.{◌≡◌, ℕ, zero, suc, ◌+◌, ◌≤◌, Bool, true, false, if◌then◌else◌, List, [], ◌∷◌, ◌++◌, length, Option, Some, None, refl, sym, ap, ◌∙◌, subst, arith}
 use Rattle.std.proofs.lemmas.Bool.{le-ltb}
 use Rattle.std.proofs.lemmas.List.{length-map, length_push}
 use Rattle.std.specs.Prelude.{nat_eq, nat_lt}
-use Rattle.dp_tree.specs.CodeLines.{body_lines, lines_of}
 use Rattle.dp_tree.specs.declared.bundle.Bundle.{Bundle}
 use Rattle.dp_tree.specs.declared.tree.Expression.{Expression}
-use Rattle.dp_tree.specs.declared.tree.Statement.{Statement}
-use Rattle.dp_value.specs.declared.value.Value.{Value}
-use Rattle.dp_state.specs.declared.moments.Moment.{Moment}
-use Rattle.dp_state.specs.declared.moments.MomentKind.{MomentKind}
-use Rattle.dp_state.specs.declared.moments.Outcome.{Outcome}
 use Rattle.dp_state.specs.declared.moments.Outcome.TheVariants as way
 use Rattle.dp_state.specs.declared.state.Frame.{Frame}
 use Rattle.dp_state.specs.declared.state.State.{State}
-use Rattle.dp_state.specs.States.{IsOf, frame_limit, opening}
-use Rattle.dp_actions.specs.declared.signal.Signal.{Signal}
+use Rattle.dp_state.specs.States.{IsOf, frame_limit}
 use Rattle.dp_meaning.specs.declared.writes.NumberedWrite.{NumberedWrite}
 use Rattle.dp_meaning.specs.declared.writes.Write.{Write}
 use Rattle.dp_meaning.specs.declared.writes.Write.TheVariants.{Place, Evaluate}
-use Rattle.dp_actions.specs.Expressions.{evaluation, evaluations}
-use Rattle.dp_actions.specs.Loops.{do_turns, turns}
-use Rattle.dp_meaning.specs.Programs.{program_run, setting_of}
-use Rattle.dp_actions.specs.Bodies.{statements_of}
+use Rattle.dp_meaning.specs.Programs.{setting_of}
 use Rattle.dp_actions.specs.Run.{Run, Done, Over, At, and_then}
 use Rattle.dp_actions.specs.Setting.{Setting}
-use Rattle.dp_meaning.specs.Statements.{body_run, statement_run}
-use Rattle.dp_meaning.specs.Trace.{Ended, Trace, moment_of, program_trace, trace, with_moment}
+use Rattle.dp_meaning.specs.Trace.{Ended, Trace, moment_of, trace, with_moment}
 use Rattle.dp_meaning.specs.Writes.{Writes, alone, arrived, evaluated, evaluation_limit, evaluation_setting, left_by, one_write, recounted, written, written_by, writes_of}
 use Rattle.dp_meaning_laws.proofs.Alike.{Alike, AreAlike, Facts, IsKept}
-use Rattle.dp_meaning_laws.proofs.AlikeExpressions.{Keeps-evaluations, Keeps-expression}
-use Rattle.dp_meaning_laws.proofs.AlikeLoops.{Alike-do, Alike-turns}
+use Rattle.dp_meaning_laws.proofs.AlikeExpressions.{Keeps-expression}
 use Rattle.dp_meaning_laws.proofs.AlikePrograms.{Keeps-file, Keeps-function}
-use Rattle.dp_meaning_laws.proofs.AlikeStatements.{Keeps-body, Keeps-statement, Still-statement}
 use Rattle.dp_meaning_laws.proofs.Each.{Each, each-all}
 use Rattle.dp_meaning_laws.proofs.Frames.{files_in}
-use Rattle.dp_meaning_laws.proofs.OfBundle.{Anywhere, IsThere, Stack, facts, kept, main_file, nowhere, one-there, recounted-there, there-arrived, there-opening, with_file, written-there}
-use Rattle.dp_actions.proofs.Runs.{and_then-Done}
+use Rattle.dp_meaning_laws.proofs.OfBundle.{Anywhere, IsThere, Stack, facts, kept, nowhere, one-there, recounted-there, there-arrived, with_file, written-there}
 
 module _ (bundle : Bundle) where
   -- a state of the bundle stands somewhere

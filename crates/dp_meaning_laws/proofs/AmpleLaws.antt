@@ -1,5 +1,5 @@
 -- More turns of loops and more frames change nothing of a program, of its parts and of its evaluations.
-use Rattle.std.proofs.Common.{◌≡◌, ℕ, zero, suc, ◌+◌, ◌<◌, ◌≤◌, List, [], length, Option, Some, None, refl, sym, ap, ◌∙◌, arith}
+use Rattle.std.proofs.Common.{◌≡◌, ℕ, ◌+◌, ◌<◌, ◌≤◌, List, [], length, Option, Some, None, refl, sym, ap, ◌∙◌, arith}
 use Rattle.std.specs.Option.{option_map_or}
 use Rattle.std.specs.Prelude.{slice_get}
 use Rattle.dp_tree.specs.CodeLines.{body_lines, lines_of}
@@ -9,7 +9,6 @@ use Rattle.dp_tree.specs.declared.tree.Expression.{Expression}
 use Rattle.dp_tree.specs.declared.tree.Statement.{Statement}
 use Rattle.dp_state.specs.declared.state.State.{State}
 use Rattle.dp_state.specs.States.{frame_limit, opening}
-use Rattle.dp_actions.specs.declared.signal.Signal.{Signal}
 use Rattle.dp_meaning.specs.declared.writes.NumberedWrite.{NumberedWrite}
 use Rattle.dp_actions.specs.Expressions.{evaluation, evaluations}
 use Rattle.dp_meaning_laws.specs.Limits.{CanStand, IsAmple, SameTraces, trace_by}
@@ -20,7 +19,7 @@ use Rattle.dp_actions.specs.Run.{Run, Done}
 use Rattle.dp_actions.specs.Setting.{Setting}
 use Rattle.dp_meaning.specs.Statements.{body_run, statement_run}
 use Rattle.dp_meaning.specs.Trace.{program_trace, trace}
-use Rattle.dp_meaning.specs.Writes.{Writes, evaluation_limit, evaluation_setting, writes_of}
+use Rattle.dp_meaning.specs.Writes.{Writes, evaluation_limit, writes_of}
 use Rattle.dp_meaning_laws.proofs.Alike.{Alike, AreAlike}
 use Rattle.dp_meaning_laws.proofs.AlikeCalls.{within-found}
 use Rattle.dp_meaning_laws.proofs.AlikeExpressions.{Keeps-evaluations, Keeps-expression}

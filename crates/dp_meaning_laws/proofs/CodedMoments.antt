@@ -18,7 +18,6 @@ use Rattle.dp_actions.specs.Bodies.{statements_of}
 use Rattle.dp_meaning.specs.Trace.{moment_at, moment_of, program_trace}
 use Rattle.dp_meaning.specs.Writes.{arrived}
 use Rattle.dp_meaning_laws.proofs.Alike.{Stands}
-use Rattle.dp_meaning_laws.proofs.AlikeCalls.{within-found}
 use Rattle.dp_meaning_laws.proofs.Each.{Each, each-left}
 use Rattle.dp_meaning_laws.proofs.Frames.{files_in, files-with_line}
 use Rattle.dp_meaning_laws.proofs.OfBundle.{HaveLines, Stack, facts, main_file, with_file}

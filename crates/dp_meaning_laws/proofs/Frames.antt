@@ -22,7 +22,7 @@ use Rattle.dp_state.specs.declared.state.State.{State}
 use Rattle.dp_state.specs.declared.vars.Slot.TheVariants.{Bound}
 use Rattle.dp_state.specs.Functions.{called, called_frame, included, included_frame, any_declared}
 use Rattle.dp_state.specs.Places.{assigned, unset, then_state, with_global, with_null, with_own, with_value, with_variables, with_vars}
-use Rattle.dp_state.specs.States.{entered, frame_limit, left, owner_at, printed, read_at, variables_at, with_line}
+use Rattle.dp_state.specs.States.{entered, frame_limit, owner_at, printed, read_at, variables_at, with_line}
 use Rattle.dp_state.specs.Variables.{Variables, with_slot, without}
 
 -- the files of some frames, the lowest first

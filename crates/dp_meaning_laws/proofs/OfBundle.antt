@@ -1,6 +1,6 @@
 -- States of a bundle, by the files of their frames and the number of their moments: each step of a program leaves one,
 -- and each write.
-use Rattle.std.proofs.Common.{◌≡◌, ℕ, zero, suc, ◌+◌, ◌-◌, ◌<◌, ◌≤◌, Bool, true, false, if◌then◌else◌, List, [], ◌∷◌, ◌++◌, length, Option, Some, None, Result, Ok, Err, refl, sym, ap, ◌∙◌, subst, arith}
+use Rattle.std.proofs.Common.{◌≡◌, ℕ, zero, suc, ◌+◌, ◌-◌, ◌<◌, Bool, true, false, if◌then◌else◌, List, [], ◌∷◌, ◌++◌, length, Option, Some, None, Result, Ok, Err, refl, sym, ap, ◌∙◌, subst, arith}
 use Rattle.std.proofs.lemmas.List.{length-map, length_push}
 use Rattle.std.specs.Prelude.{nat_eq, nat_lt, slice_get}
 use Rattle.dp_tree.specs.CodeLines.{file_lines}
@@ -9,14 +9,12 @@ use Rattle.dp_tree.specs.declared.bundle.BundleFile.{BundleFile}
 use Rattle.dp_tree.specs.declared.tree.Expression.{Expression}
 use Rattle.dp_value.specs.declared.value.Value.{Value}
 use Rattle.dp_state.specs.declared.moments.FatalKind.{FatalKind}
-use Rattle.dp_state.specs.declared.moments.Outcome.TheVariants as way
 use Rattle.dp_state.specs.declared.moments.Path.{Path}
 use Rattle.dp_state.specs.declared.state.Frame.{Frame}
 use Rattle.dp_state.specs.declared.state.State.{State}
 use Rattle.dp_state.specs.Places.{assigned, given_keys}
 use Rattle.dp_state.specs.States.{IsOf, frame_limit, left, on_line, opening}
 use Rattle.dp_state.proofs.Kept.{of-assigned, of-called, of-counted, of-included, of-left, of-on_line, of-opening, of-printed, of-unset, of-with_global}
-use Rattle.dp_meaning.specs.declared.stop.Stop.TheVariants as stop
 use Rattle.dp_meaning.specs.declared.writes.WriteFault.{WriteFault}
 use Rattle.dp_meaning.specs.declared.writes.WriteFault.TheVariants.{NoFrame}
 use Rattle.dp_meaning.specs.declared.writes.NumberedWrite.{NumberedWrite}
@@ -24,7 +22,7 @@ use Rattle.dp_meaning.specs.declared.writes.Write.{Write}
 use Rattle.dp_meaning.specs.declared.writes.Write.TheVariants.{Place, Evaluate}
 use Rattle.dp_actions.specs.Expressions.{evaluation}
 use Rattle.dp_actions.specs.Run.{Run, Done, Over, At}
-use Rattle.dp_meaning.specs.Writes.{alone, arrived, evaluated, evaluation_limit, evaluation_setting, in_context, left_by, one_write, or_unchanged, place_or_fault, recounted, written, written_by}
+use Rattle.dp_meaning.specs.Writes.{alone, arrived, evaluated, evaluation_limit, evaluation_setting, in_context, left_by, one_write, or_unchanged, place_or_fault, recounted, written_by}
 use Rattle.dp_meaning_laws.proofs.Alike.{Alike, Facts, IsKept}
 use Rattle.dp_meaning_laws.proofs.AlikeExpressions.{Keeps-expression}
 use Rattle.dp_meaning_laws.proofs.AlikePrograms.{Keeps-setting}

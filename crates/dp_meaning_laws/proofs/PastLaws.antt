@@ -2,8 +2,6 @@
 use Rattle.std.proofs.Common.{◌≡◌, ℕ, zero, suc, ◌+◌, ◌-◌, ◌<◌, ◌≤◌, Bool, true, false, List, [], ◌∷◌, length, take, refl, sym, ap, ◌∙◌, arith}
 use Rattle.std.specs.Prelude.{if◌then◌else◌, nat_eq, nat_lt}
 use Rattle.dp_tree.specs.declared.bundle.Bundle.{Bundle}
-use Rattle.dp_state.specs.declared.moments.Moment.{Moment}
-use Rattle.dp_state.specs.declared.moments.MomentKind.{MomentKind}
 use Rattle.dp_state.specs.declared.moments.Outcome.TheVariants.{Bound}
 use Rattle.dp_state.specs.declared.state.State.{State}
 use Rattle.dp_meaning.specs.declared.writes.NumberedWrite.{NumberedWrite}
@@ -11,8 +9,8 @@ use Rattle.dp_meaning_laws.specs.Past.{AgreeBelow, SameUpTo}
 use Rattle.dp_meaning.specs.Programs.{program_run}
 use Rattle.dp_actions.specs.Run.{Run, Done, Over, At}
 use Rattle.dp_actions.specs.Setting.{Setting}
-use Rattle.dp_meaning.specs.Trace.{End, Ended, Trace, moment_of, program_trace, trace, with_moment}
-use Rattle.dp_meaning.specs.Writes.{Writes, arrived, evaluation_setting, of_number, one_write, written, written_by, writes_of}
+use Rattle.dp_meaning.specs.Trace.{Ended, Trace, moment_of, program_trace, trace, with_moment}
+use Rattle.dp_meaning.specs.Writes.{Writes, arrived, evaluation_setting, of_number, one_write, written, written_by}
 use Rattle.dp_meaning_laws.proofs.Steady.{IsSteady, steady-program}
 use Rattle.dp_meaning.proofs.WrittenMoments.{moments-written}
 

@@ -15,15 +15,14 @@ use Rattle.dp_actions.specs.declared.signal.Signal.{Signal}
 use Rattle.dp_actions.specs.declared.signal.Signal.TheVariants.{Next}
 use Rattle.dp_meaning.specs.declared.writes.NumberedWrite.{NumberedWrite}
 use Rattle.dp_meaning.specs.Programs.{program_run, setting_of}
-use Rattle.dp_actions.specs.Bodies.{statements_of}
 use Rattle.dp_meaning.specs.Statements.{body_run}
-use Rattle.dp_meaning.specs.Trace.{Gave, Trace, moment_at, moment_of, now, outcome, outcome_of, program_trace, trace}
-use Rattle.dp_meaning.specs.Writes.{arrived, written, writes_of}
+use Rattle.dp_meaning.specs.Trace.{Gave, Trace, moment_at, now, outcome, outcome_of, program_trace, trace}
+use Rattle.dp_meaning.specs.Writes.{written, writes_of}
 use Rattle.dp_meaning_laws.specs.Limits.{CanStand}
 use Rattle.dp_meaning_laws.proofs.Alike.{CanEnd}
 use Rattle.dp_meaning_laws.proofs.AlikeCalls.{within-found}
 use Rattle.dp_meaning_laws.proofs.OfBundle.{Anywhere, IsThere, Stack, main_file, there-opening}
-use Rattle.dp_meaning_laws.proofs.Traces.{Along, Comes, after-writes, arrived-there, program-along}
+use Rattle.dp_meaning_laws.proofs.Traces.{Comes, after-writes, arrived-there, program-along}
 
 module _ (bundle : Bundle) (bound : ℕ) (ws : List NumberedWrite) where
   abbrev whole : Trace Signal

@@ -1,7 +1,6 @@
 -- The reading of an entry of an array.
-use Rattle.std.proofs.Common.{◌≡◌, Bool, true, false, Option, Some, None, Result, Ok, Err, unwrap_or, sym, ap, ◌∙◌}
+use Rattle.std.proofs.Common.{◌≡◌, Bool, true, false, Option, Some, Ok, Err, unwrap_or, sym, ap, ◌∙◌}
 use Rattle.std.specs.Option.{option_map_or}
-use Rattle.dp_value.specs.declared.errors.ValueError.{ValueError}
 use Rattle.dp_value.specs.declared.errors.ValueError.TheVariants.{BadKey}
 use Rattle.dp_value.specs.declared.key.Key.{Key}
 use Rattle.dp_value.specs.inner.Codes.{table_from, table_from-data_of_table}

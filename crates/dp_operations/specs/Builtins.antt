@@ -9,7 +9,7 @@ use Rattle.dp_value.specs.declared.errors.CallError.TheVariants.{Overflow, DivBy
 use Rattle.dp_value.specs.declared.operators.Builtin.{Builtin}
 use Rattle.dp_value.specs.declared.operators.Builtin.TheVariants.{StrLen, Ord, Count, ArrayKeys, ArrayValues, IntDiv, Chr, SubStr, StrRepeat, Implode, IsInt, IsString, IsBool, IsNull, IsArray}
 use Rattle.dp_value.specs.declared.value.Value.{Value}
-use Rattle.dp_value.specs.Data.{Data, Entries, data_of_key, null, boolean, integer, text, array, pairs_of}
+use Rattle.dp_value.specs.Data.{Data, data_of_key, null, boolean, integer, text, array, pairs_of}
 use Rattle.dp_value.specs.IntText.{is_in_64_bits}
 use Rattle.dp_value.specs.Table.{keys_of, values_of, weight_limit}
 use Rattle.dp_value.specs.Value.{data_of}

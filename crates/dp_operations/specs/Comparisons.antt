@@ -9,7 +9,7 @@ use Rattle.std.specs.declared.cmp.Ordering.{Ordering}
 use mathlib.Core.Bool.{beq}
 use Rattle.dp_value.specs.declared.errors.ValueError.{ValueError}
 use Rattle.dp_value.specs.declared.errors.ValueError.TheVariants.{Unsupported}
-use Rattle.dp_value.specs.Data.{Data, null, boolean, integer, text, array}
+use Rattle.dp_value.specs.Data.{Data, null, boolean, integer, text}
 
 abbrev pub has_digit : List ℕ → Bool
 has_digit bytes = list_any is_ascii_digit bytes

@@ -1,5 +1,5 @@
 -- Lists: arrays with the keys 0, 1, 2 and so on. Source: the PHP manual, "Array Functions".
-use Rattle.std.specs.Prelude.{ℕ, ℤ, pos, zero, suc, ◌-◌, cond, nat_le, List, [], ◌∷◌, map, length, Option, Some, None, Result, Ok, Err}
+use Rattle.std.specs.Prelude.{ℕ, ℤ, pos, zero, suc, cond, nat_le, List, [], ◌∷◌, length, Option, Some, None, Result, Ok, Err}
 use Rattle.dp_value.specs.declared.errors.CallError.{CallError}
 use Rattle.dp_value.specs.declared.errors.CallError.TheVariants.{TooHeavy}
 use Rattle.dp_value.specs.declared.key.Key.{Key}

@@ -1,6 +1,6 @@
 //! The built-in functions on arrays.
 
-ghost use Rattle.std.specs.Prelude.{◌≡◌, ◌<◌, ◌≤◌, ◌⊎◌, pos, length, map, Some, IfOk, IfErr, OnOk};
+ghost use Rattle.std.specs.Prelude.{◌≡◌, ◌<◌, ◌≤◌, ◌⊎◌, pos, length, map, Some, IfErr, OnOk};
 ghost use Rattle.dp_value.specs.Data.{data_of_key, pairs_weight};
 ghost use Rattle.dp_value.specs.Table.{table_push, largest_int, weight_limit};
 ghost use Rattle.dp_value.specs.Value.{data_of};

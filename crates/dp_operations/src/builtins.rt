@@ -1,6 +1,6 @@
 //! The built-in functions, by their names.
 
-ghost use Rattle.std.specs.Prelude.{◌≡◌, map};
+ghost use Rattle.std.specs.Prelude.{map};
 ghost use Rattle.dp_value.specs.Value.{data_of};
 ghost use Rattle.dp_operations.specs.Builtins.{builtin_of, CallAnswers};
 

@@ -1,6 +1,5 @@
 //! The operators on one value and between two.
 
-ghost use Rattle.std.specs.Prelude.{◌≡◌};
 ghost use lib.IntN.{neg_ℤ};
 ghost use Rattle.std.specs.Ordering.{is_lt, is_le, is_gt, is_ge};
 ghost use Rattle.dp_value.specs.Value.{data_of};

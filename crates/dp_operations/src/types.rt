@@ -1,6 +1,6 @@
 //! The built-in functions that tell the type of a value.
 
-ghost use Rattle.std.specs.Prelude.{◌≡◌, map};
+ghost use Rattle.std.specs.Prelude.{map};
 ghost use Rattle.dp_value.specs.Value.{data_of};
 ghost use Rattle.dp_operations.specs.Builtins.{on_one, single as one_of, tested, CallGives};
 ghost use Rattle.dp_operations.specs.Builtins as table;

@@ -1,5 +1,5 @@
 //! What is not there: no network and no threads.
-ghost use Rattle.std.specs.Prelude.{◌≡◌, ◌≤◌, [], ◌∷◌, None, IsErr, OnOk};
+ghost use Rattle.std.specs.Prelude.{◌≡◌, ◌≤◌, None, IsErr, OnOk};
 ghost use Rattle.dp_outside.specs.Causes.{HasCause, Rose};
 ghost use Rattle.dp_outside.specs.Fakes.{one_more};
 ghost use Rattle.dp_outside.specs.Links.{CountsReturned};

@@ -1,5 +1,5 @@
 //! Many jobs at once. All memory is taken before the first job starts.
-ghost use Rattle.std.specs.Prelude.{◌≡◌, ◌<◌, ◌≤◌, [], IfOk, count_by, is_err, length, map, not, vec_capacity, vec_len};
+ghost use Rattle.std.specs.Prelude.{◌≡◌, ◌<◌, ◌≤◌, [], IfOk, count_by, is_err, length, map, not, vec_capacity};
 ghost use Rattle.std.specs.List.{AllZip};
 ghost use Rattle.dp_outside.specs.Causes.{Rose};
 ghost use Rattle.dp_outside.specs.Jobs.{RanOrBack};

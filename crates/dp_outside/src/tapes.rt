@@ -1,5 +1,5 @@
 //! Bytes that come in pieces of given sizes.
-ghost use Rattle.std.specs.Prelude.{◌≡◌, ◌<◌, ◌≤◌, [], ◌++◌, length, take};
+ghost use Rattle.std.specs.Prelude.{◌≡◌, ◌<◌, ◌≤◌, [], length, take};
 ghost use Rattle.dp_outside.specs.Fakes.{after_piece, next_cut, piece_length, whole_tape};
 
 use std::marker::Model;

@@ -3,7 +3,6 @@ use Rattle.std.specs.Prelude.{ℕ, not, ◌==◌, List, [], ◌∷◌, ◌++◌,
 use Rattle.std.specs.Fmt.{signed_decimal}
 use Rattle.dp_markup.specs.declared.tree.Node.{Node}
 use Rattle.dp_packet.specs.declared.property.Property.{Property, fold-Property}
-use Rattle.dp_packet.specs.declared.property.Shape.{Shape}
 use Rattle.dp_packet.specs.declared.property.Shape.TheOpen.{Shape-F, Property-F}
 use Rattle.dp_packet.specs.Parts.{Text, Attributes, child, text_nodes, given, flag, base64}
 

@@ -1,5 +1,5 @@
 //! The sizes of breakpoints.
-ghost use Rattle.std.specs.Prelude.{◌≡◌, ◌∷◌, ◌++◌, [], length, map};
+ghost use Rattle.std.specs.Prelude.{◌≡◌, length, map};
 ghost use Rattle.dp_markup.specs.Texts.{node_text, nodes_text};
 ghost use Rattle.dp_packet.specs.Breakpoints as spec;
 ghost use Rattle.dp_packet.specs.Sizes.{counted};

@@ -1,7 +1,6 @@
 -- The bytes of files and of expressions: which tree they are, and why they are none.
 use Rattle.std.specs.Prelude.{◌≡◌, ℕ, ◌+◌, ◌-◌, List, ⊤}
 use Rattle.dp_lexer.specs.declared.errors.LexError.{LexError}
-use Rattle.dp_lexer.specs.declared.errors.LexError.TheVariants as lex_error
 use Rattle.dp_lexer.specs.declared.fault.Fault.{Fault}
 use Rattle.dp_lexer.specs.declared.token.Token.{Token}
 use Rattle.dp_lexer.specs.Tokens.{AreFileTokens, AreTokens, IsFileRefused, IsRefused, error_of, feeds}

@@ -1,12 +1,11 @@
 //! Statements without a body: jumps out of loops, functions and programs, and what is declared or removed.
 
-ghost use Rattle.std.specs.Prelude.{⊤, ◌≡◌, ◌<◌, ◌≤◌, ◌^◌};
+ghost use Rattle.std.specs.Prelude.{⊤, ◌<◌};
 ghost use Rattle.dp_token_rules.specs.inner.Input.{Reads};
 ghost use Rattle.dp_parse.specs.inner.Within.{within};
 ghost use Rattle.dp_token_rules.specs.inner.Input as input;
 ghost use Rattle.dp_token_rules.specs.inner.ListReaders as lists;
 ghost use Rattle.dp_parse.specs.inner.StatementRules as spec;
-ghost use Rattle.dp_parse.specs.Statements as grammar;
 
 use crate::ended::{Ended, whole};
 use crate::grammar::Statements;

@@ -1,6 +1,6 @@
 //! Expressions and places with as many levels of nesting as programs have.
 
-ghost use Rattle.std.specs.Prelude.{◌≡◌, ⊤};
+ghost use Rattle.std.specs.Prelude.{⊤};
 ghost use Rattle.dp_token_rules.specs.inner.Input.{Reads};
 ghost use Rattle.dp_parse.specs.inner.Within as limited;
 ghost use Rattle.dp_token_rules.specs.inner.ListReaders as lists;

@@ -1,6 +1,6 @@
 //! The parameters of functions.
 
-ghost use Rattle.std.specs.Prelude.{◌≡◌, ◌++◌, ◌∷◌, []};
+ghost use Rattle.std.specs.Prelude.{◌++◌, ◌∷◌, []};
 ghost use Rattle.dp_token_rules.specs.inner.Input.{Reads, closed, made};
 ghost use Rattle.dp_parse.specs.inner.Parameters as spec;
 ghost use Rattle.dp_token_rules.specs.inner.ListReaders as lists;

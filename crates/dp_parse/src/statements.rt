@@ -1,6 +1,6 @@
 //! Statements.
 
-ghost use Rattle.std.specs.Prelude.{◌≡◌, ◌+◌, ◌<◌, ◌≤◌, ◌^◌};
+ghost use Rattle.std.specs.Prelude.{◌+◌, ◌<◌, ◌≤◌, ◌^◌};
 ghost use Rattle.dp_token_rules.specs.inner.Input.{Reads};
 ghost use Rattle.dp_parse.specs.Limits as limits;
 ghost use Rattle.dp_parse.specs.inner.Within as limited;

@@ -1,5 +1,5 @@
 -- The rows of the table of acts, and what they leave of the live sessions.
-use Rattle.std.proofs.Common.{◌≡◌, ◌⊎◌, ℕ, ◌==◌, ◌<◌, Bool, true, false, if◌then◌else◌, List, [], ◌∷◌, ◌++◌, Option, Some, None, Result, Ok, Err, IfOk, Contains}
+use Rattle.std.proofs.Common.{◌≡◌, ◌⊎◌, ℕ, ◌<◌, true, false, if◌then◌else◌, List, [], ◌∷◌, ◌++◌, Option, Some, None, Result, Ok, Err, IfOk, Contains}
 use Rattle.std.proofs.Common.{refl, sym, ap, subst, ◌∙◌, inl, inr, arith}
 use Rattle.std.proofs.lemmas.Bool.{ne_eqb}
 use Rattle.std.proofs.lemmas.Option.{same_Some}
@@ -12,7 +12,6 @@ use Rattle.dp_registry.specs.Journal.{dismisses, given, live, is_live, IsNew}
 use Rattle.dp_registry.specs.declared.refusal.Refusal.TheVariants as refusal
 use Rattle.dp_outside.specs.Names.{IsKey}
 use Rattle.dp_registry.specs.Verdicts.{admit_verdict, admit_reply_of, noted, reply_of, IsAnswer}
-use Rattle.dp_wire.specs.Received.{Received}
 use Rattle.dp_registry.proofs.Lists.{from_filter}
 use Rattle.dp_registry.proofs.LiveSessions.{still_lives, noted_lives}
 use Rattle.dp_lanes.specs.declared.lane.Lane.{Lane}
@@ -34,12 +33,12 @@ use Rattle.dp_proxy.specs.declared.kept.Kept.TheVariants as keep
 use Rattle.dp_proxy.specs.declared.kept.Step.{Step}
 use Rattle.dp_proxy.specs.Calls.{call_of}
 use Rattle.dp_proxy.specs.Links.{passed, ends}
-use Rattle.dp_proxy.specs.Pasts.{Link, New, Asking, Settled, Joined, Ended, Refused, Lead, lead, without_effect, question, listening, answered, opened, admitted, admission}
+use Rattle.dp_proxy.specs.Pasts.{Link, New, Asking, Settled, Joined, Ended, Refused, Lead, lead, without_effect, question, listening, answered, opened}
 use Rattle.dp_proxy.specs.Replies.{entry_of, verdict_on, reply_frame, registered, registered_by}
 use Rattle.dp_proxy.specs.Invariant.{IsOver, IsKept, session_in}
 use Rattle.dp_proxy.specs.Steps.{ComesWithKey}
 use Rattle.dp_proxy.specs.inner.Lanes.{FollowBoth}
-use Rattle.dp_proxy.specs.inner.Acts.{Hears, Passes, Leads, Moves, LeavesOthers, IsOwn}
+use Rattle.dp_proxy.specs.inner.Acts.{Hears, Passes, Leads, LeavesOthers, IsOwn}
 
 -- ---- rows
 

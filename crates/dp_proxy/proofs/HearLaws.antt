@@ -1,6 +1,6 @@
 -- What an IDE asks, in whatever pieces it comes.
-use Rattle.std.proofs.Common.{◌≡◌, ℕ, ◌+◌, Bool, true, false, not, ◌==◌, if◌then◌else◌, List, [], ◌∷◌, ◌++◌, take, drop, Option, Some, None}
-use Rattle.std.proofs.Common.{refl, sym, ap, subst, ◌∙◌, append_assoc}
+use Rattle.std.proofs.Common.{◌≡◌, ℕ, ◌+◌, true, false, if◌then◌else◌, List, ◌∷◌, ◌++◌, take, drop, Some, None}
+use Rattle.std.proofs.Common.{sym, ap, subst, ◌∙◌, append_assoc}
 use Rattle.std.proofs.lemmas.Bool.{and_from, false_from_ne_true}
 use Rattle.std.proofs.lemmas.List.Folds.{list_all-append}
 use Rattle.dp_wire.specs.Frames.{has_no_nul, up_to_nul, FirstNul}
@@ -8,7 +8,7 @@ use Rattle.dp_wire.proofs.FrameLaws.{no_nul-at}
 use Rattle.dp_lanes.proofs.RestLaws.{up_before}
 use Rattle.dp_proxy.specs.declared.events.Act.TheVariants.{Given}
 use Rattle.dp_proxy.specs.declared.input.Hearing.TheVariants.{More, Asked}
-use Rattle.dp_proxy.specs.Pasts.{Asking, question, listening}
+use Rattle.dp_proxy.specs.Pasts.{Asking}
 use Rattle.dp_proxy.specs.inner.Acts.{Hears}
 
 both_clean : (a b : List ℕ) → has_no_nul a ≡ true → has_no_nul b ≡ true → has_no_nul (a ++ b) ≡ true

@@ -1,5 +1,5 @@
 -- What an act of a session is answered, by what its lanes hand out.
-use Rattle.std.proofs.Common.{◌≡◌, ◌⊎◌, ℕ, ◌<◌, ◌==◌, Bool, true, false, ◌||◌, if◌then◌else◌, List, [], ◌∷◌, ◌++◌, length, drop, flat_map}
+use Rattle.std.proofs.Common.{◌≡◌, ℕ, ◌<◌, ◌==◌, Bool, true, false, if◌then◌else◌, List, [], ◌∷◌, ◌++◌, length, drop, flat_map}
 use Rattle.std.proofs.Common.{Option, Some, None, is_none, refl, sym, ap, subst, ◌∙◌, inl, inr, append-nil, arith}
 use Rattle.std.proofs.lemmas.Bool.{or_left, or_right, or_from, eqb-true, false≢true}
 use Rattle.std.proofs.lemmas.List.Concat.{flat_map-append}
@@ -7,12 +7,11 @@ use Rattle.dp_lanes.specs.declared.lane.Lane.{Lane}
 use Rattle.dp_lanes.specs.declared.lane.LaneKind.{LaneKind}
 use Rattle.dp_lanes.specs.declared.lane.LaneKind.TheVariants.{Up, Down}
 use Rattle.dp_lanes.specs.Lanes.{frame, texts_in, is_bad}
-use Rattle.dp_lanes.specs.Places.{IsBadAt, IsBadIn, IsBadPlace, Follows, handed_of, Carries}
+use Rattle.dp_lanes.specs.Places.{IsBadAt, IsBadIn, IsBadPlace, Follows, Carries}
 use Rattle.dp_proxy.specs.declared.events.Act.{Act}
-use Rattle.dp_proxy.specs.declared.events.Act.TheVariants.{Ide, Engine, Given, Moved, Closed}
+use Rattle.dp_proxy.specs.declared.events.Act.TheVariants.{Given, Moved, Closed}
 use Rattle.dp_proxy.specs.declared.events.Effect.{Effect}
 use Rattle.dp_proxy.specs.declared.events.Effect.TheVariants.{Nothing, ToEngine, ToIde}
-use Rattle.dp_proxy.specs.declared.passes.Passing.{Passing}
 use Rattle.dp_proxy.specs.declared.passes.Passing.TheVariants as passing
 use Rattle.dp_proxy.specs.Links.{brought, stream, handed, is_broken, effect_of, passed, ends}
 use Rattle.dp_proxy.specs.Places.{BreaksAt}

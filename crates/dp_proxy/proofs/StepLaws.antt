@@ -1,5 +1,5 @@
 -- One step of a proxy, from what its parts ensure.
-use Rattle.std.proofs.Common.{◌≡◌, ℕ, ◌==◌, ◌&&◌, false, if◌then◌else◌, List, Option, Some, None, is_some, refl, sym, ap, subst, ◌∙◌}
+use Rattle.std.proofs.Common.{◌≡◌, ℕ, ◌==◌, ◌&&◌, false, if◌then◌else◌, List, Option, Some, None, is_some, sym, ap, subst, ◌∙◌}
 use Rattle.dp_registry.specs.declared.entry.Entry.{Entry}
 use Rattle.dp_proxy.specs.declared.events.Event.{Event}
 use Rattle.dp_proxy.specs.declared.kept.Kept.{Kept}

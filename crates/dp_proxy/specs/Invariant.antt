@@ -1,6 +1,6 @@
 -- How what a proxy keeps stands for the events that came. A reader of a step's contract takes
 -- `Represents` for a name that `new` gives and `step` carries on; what it says is for the proofs.
-use Rattle.std.specs.Prelude.{◌≡◌, ℕ, true, List, Option, Some, None, Result, Ok, Err, nat_eq}
+use Rattle.std.specs.Prelude.{◌≡◌, ℕ, true, List, Option, Some, None, Result, Err, nat_eq}
 use Rattle.std.specs.Prelude.{Contains}
 use Rattle.std.specs.Map.{lookup}
 use Rattle.dp_registry.specs.declared.entry.Entry.{Entry}

@@ -1,6 +1,6 @@
 -- What has come of a list of events: the journal of the registry, and what is known of each link.
 -- All is kept whole here: a proxy that works keeps only what has not been handed out.
-use Rattle.std.specs.Prelude.{ℕ, ◌==◌, Bool, if◌then◌else◌, List, [], ◌∷◌, ◌++◌, fold}
+use Rattle.std.specs.Prelude.{ℕ, ◌==◌, if◌then◌else◌, List, [], ◌∷◌, ◌++◌, fold}
 use Rattle.std.specs.Prelude.{Option, Some, None, Result, Ok, Err}
 use Rattle.dp_registry.specs.declared.entry.Entry.{Entry}
 use Rattle.dp_registry.specs.declared.entry.Entry.TheVariants as entry
@@ -9,7 +9,7 @@ use Rattle.dp_registry.specs.declared.refusal.Refusal.{Refusal}
 use Rattle.dp_registry.specs.Verdicts.{admit_verdict, admit_reply_of, noted}
 use Rattle.dp_wire.specs.Frames.{has_no_nul, up_to_nul}
 use Rattle.dp_proxy.specs.declared.events.Act.{Act}
-use Rattle.dp_proxy.specs.declared.events.Act.TheVariants.{Ide, Engine, Given, Moved, Closed}
+use Rattle.dp_proxy.specs.declared.events.Act.TheVariants.{Ide, Engine, Given, Closed}
 use Rattle.dp_proxy.specs.declared.events.Effect.{Effect}
 use Rattle.dp_proxy.specs.declared.events.Effect.TheVariants.{Nothing, Reply, Admitted, Turned}
 use Rattle.dp_proxy.specs.declared.events.Event.{Event}

@@ -1,9 +1,9 @@
 -- What one step of a proxy answers, by all events before it.
-use Rattle.std.specs.Prelude.{◌≡◌, ℕ, List, [], ◌∷◌, ◌++◌, Option, Some, None, Result, Ok, Err}
+use Rattle.std.specs.Prelude.{◌≡◌, ℕ, List, [], ◌∷◌, ◌++◌, Some, None, Result, Ok, Err}
 use Rattle.dp_registry.specs.declared.entry.Entry.{Entry}
 use Rattle.dp_outside.specs.Names.{IsHost, IsKey}
 use Rattle.dp_proxy.specs.declared.events.Act.{Act}
-use Rattle.dp_proxy.specs.declared.events.Act.TheVariants.{Ide, Engine, Given, Moved, Closed}
+use Rattle.dp_proxy.specs.declared.events.Act.TheVariants.{Ide, Engine}
 use Rattle.dp_proxy.specs.declared.events.Effect.{Effect}
 use Rattle.dp_proxy.specs.declared.events.Event.{Event}
 use Rattle.dp_proxy.specs.declared.errors.ProxyError.{ProxyError}

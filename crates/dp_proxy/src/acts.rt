@@ -1,5 +1,5 @@
 //! What an act on one link leads to.
-ghost use Rattle.std.specs.Prelude.{◌≡◌, ◌⊎◌, [], ◌∷◌, ◌++◌, List, ℕ, true, None, Some, Ok, IfOk, IsSome, Contains};
+ghost use Rattle.std.specs.Prelude.{◌≡◌, List, ℕ, true, None, Some, Ok, IfOk, IsSome, Contains};
 ghost use Rattle.dp_registry.specs.declared.entry.Entry.{Entry};
 ghost use Rattle.dp_registry.specs.declared.refusal.Refusal.TheVariants as refusal;
 ghost use Rattle.dp_registry.specs.Journal.{live};

@@ -13,7 +13,7 @@ const MOST_ENTRIES: usize = 262_144;
 const MOST_LIVE: usize = 256;
 
 impl Registry {
-    ghost use Rattle.std.specs.Prelude.{◌≡◌, option_map, option_and_then, slice_get, IfOk, Some};
+    ghost use Rattle.std.specs.Prelude.{◌≡◌, option_map, IfOk, Some};
     ghost use Rattle.dp_registry.specs.Journal.{holder, live_under, next_session, least};
     ghost use Rattle.dp_registry.specs.Verdicts.{is_full, is_crowded, full, registering, stopping, admitting};
     ghost use Rattle.dp_registry.specs.inner.Answered.{holder_from, registered, stopped, admitted};

@@ -1,6 +1,6 @@
 //! What is found in an element that is read.
 
-ghost use Rattle.std.specs.Prelude.{◌≡◌, ◌≤◌, ◌++◌, ◌∷◌, not, IfOk, OnOk, IfSome, option_copied, option_to_list};
+ghost use Rattle.std.specs.Prelude.{◌≡◌, ◌≤◌, ◌++◌, ◌∷◌, not, IfOk, OnOk, option_copied, option_to_list};
 ghost use Rattle.dp_value.specs.Decimals.{decimal_in};
 ghost use Rattle.dp_markup.specs.declared.tree.Node.TheViews.{out-Node};
 ghost use Rattle.dp_reply.specs.Contents as spec;

@@ -1,6 +1,6 @@
 //! Lists of elements of one kind.
 
-ghost use Rattle.std.specs.Prelude.{◌≡◌, Option};
+ghost use Rattle.std.specs.Prelude.{Option};
 ghost use Rattle.dp_markup.specs.declared.tree.Element.{Element as Tree};
 ghost use Rattle.dp_markup.specs.declared.tree.Node.TheViews.{out-Node};
 ghost use Rattle.dp_reply.specs.Contents.{each, elements, elements_of};

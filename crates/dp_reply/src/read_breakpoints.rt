@@ -1,7 +1,5 @@
 //! Breakpoints as they are read.
 
-ghost use Rattle.std.specs.Prelude.{◌≡◌};
-ghost use Rattle.dp_reply.specs.Contents as contents;
 ghost use Rattle.dp_reply.specs.Readings as spec;
 ghost use Rattle.dp_reply.specs.Verdict.{Finds};
 

@@ -1,9 +1,7 @@
 //! Properties as they are read.
 
-ghost use Rattle.std.specs.Prelude.{◌≡◌};
 ghost use Rattle.dp_markup.specs.declared.tree.Node.TheViews.{out-Node};
-ghost use Rattle.dp_value.specs.IntText as int_text;
-ghost use Rattle.dp_reply.specs.Contents.{each, elements, elements_of, elements_in};
+ghost use Rattle.dp_reply.specs.Contents.{each, elements, elements_of};
 ghost use Rattle.dp_reply.specs.Readings as spec;
 ghost use Rattle.dp_reply.specs.Verdict.{Finds, behind};
 

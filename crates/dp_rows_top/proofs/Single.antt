@@ -1,5 +1,5 @@
 -- Lists of one.
-use Rattle.std.proofs.Common.{◌≡◌, ℕ, zero, suc, List, [], ◌∷◌, All, arith}
+use Rattle.std.proofs.Common.{zero, suc, [], ◌∷◌, All, arith}
 
 -- what holds of it holds of all
 pub only : {A : Type 0} (P : A → Type 0) (x : A) → P x → All P (x ∷ [])

@@ -1,5 +1,5 @@
 -- What replies show, and which writes are kept.
-use Rattle.std.proofs.Common.{◌≡◌, ◌≢◌, ℕ, Bool, List, Option, Some, None, Result, Ok, Err, not, refl, sym, ap, subst, ◌∙◌}
+use Rattle.std.proofs.Common.{◌≡◌, ◌≢◌, ℕ, List, Option, Some, None, Result, Ok, Err, not, refl, sym, ap, subst, ◌∙◌}
 use Rattle.std.specs.Prelude.{[], option_map}
 use Rattle.std.specs.Option.{option_map_or}
 use Rattle.dp_command.specs.declared.command.Command.{Command}
@@ -26,7 +26,7 @@ use Rattle.dp_engine.specs.declared.sides.Side.{Side}
 use Rattle.dp_engine.specs.declared.sides.Side.TheVariants.{Session, Breakpoints, Program, Writes}
 use Rattle.dp_engine.specs.declared.states.Phase.{Phase}
 use Rattle.dp_engine.specs.declared.states.Phase.TheVariants.{Starting, Break, Stopping}
-use Rattle.dp_engine.specs.Answers.{Turn, breakpoints_done, continued, done_on, gone_on, kept_if, moved, response_in, session_done, shown, turn, turn_by_command, turn_of, with_write, written}
+use Rattle.dp_engine.specs.Answers.{Turn, continued, done_on, gone_on, kept_if, moved, response_in, session_done, turn, turn_by_command, turn_of, with_write}
 use Rattle.dp_engine.specs.Refusals.{own_tests, refusal, refusal_of_line, row_tests, tests}
 use Rattle.dp_engine.specs.Session.{State, breaks_of, here, program_of, stop_of}
 use Rattle.dp_session_laws.specs.Shown.{IsAccepted, IsShown, IsTaken, WritesNothing}

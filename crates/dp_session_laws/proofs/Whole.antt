@@ -1,6 +1,6 @@
 -- What the engine sends, served alone, is whole packets: each text of a session, whatever bytes come, is one of a
 -- packet.
-use Rattle.std.proofs.Common.{◌≡◌, ℕ, ◌≤◌, Bool, true, false, not, if◌then◌else◌, List, [], ◌∷◌, ◌++◌, length, Option, Some, None, refl, sym, ap, subst, ◌∙◌, arith, append_assoc, decimal, nat_le}
+use Rattle.std.proofs.Common.{◌≡◌, ℕ, ◌≤◌, Bool, true, false, not, if◌then◌else◌, List, [], ◌∷◌, ◌++◌, length, Option, Some, None, refl, ap, subst, ◌∙◌, arith, append_assoc, decimal, nat_le}
 use Rattle.std.specs.Prelude.{◌&&◌, cond, is_some, option_and_then, option_map, IfSome, Result, Ok, Err}
 use Rattle.std.specs.List.{AllByRecursion, flat_map}
 use Rattle.std.specs.Option.{option_map_or}

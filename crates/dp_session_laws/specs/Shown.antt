@@ -1,6 +1,6 @@
 -- What replies show: the program's run with the writes that were accepted, where the session
 -- stands.
-use Rattle.std.specs.Prelude.{◌≡◌, ◌≢◌, ℕ, ◌<◌, List, Option, Some, None, Ok}
+use Rattle.std.specs.Prelude.{◌≡◌, ◌≢◌, ℕ, ◌<◌, List, Some, None, Ok}
 use Rattle.dp_tree.specs.declared.bundle.Bundle.{Bundle}
 use Rattle.dp_command.specs.declared.command.Command.{Command}
 use Rattle.dp_command.specs.declared.line.Line.{Line}

@@ -1,24 +1,24 @@
 -- How far `show` has come, one packet and one piece at a time, and what it comes to.
-use Rattle.std.proofs.Common.{◌≡◌, ◌≢◌, ◌⊎◌, inl, inr, ℕ, ◌+◌, ◌-◌, ◌^◌, ◌≤◌, min, List, [], ◌∷◌, ◌++◌, length, take, drop, refl, sym, ap, ◌∙◌, subst, append_assoc, append-nil, arith, length-append}
+use Rattle.std.proofs.Common.{◌≡◌, ◌≢◌, ◌⊎◌, inl, inr, ℕ, ◌+◌, ◌≤◌, min, List, [], ◌∷◌, ◌++◌, length, take, drop, refl, sym, ap, ◌∙◌, subst, append_assoc, append-nil, arith, length-append}
 use Rattle.std.specs.List.{flat_map, AllByRecursion}
-use Rattle.std.specs.Io.KnownBytes.{Appends, Consumes, Keeps, IsAtEnd}
-use Rattle.std.proofs.KnownBytes.{Appends-nil, Appends-trans, Consumes-nil, Consumes-trans, Consumes-kept}
+use Rattle.std.specs.Io.KnownBytes.{Appends, Consumes, IsAtEnd}
+use Rattle.std.proofs.KnownBytes.{Appends-nil, Appends-trans, Consumes-trans, Consumes-kept}
 use Rattle.std.proofs.lemmas.List.{take_all}
 use Rattle.std.proofs.lemmas.List.Concat.{flat_map-append}
 use Rattle.std.proofs.Math.Seq.{drop-append_seam, take-append-add}
-use Rattle.std.specs.Prelude.{Result, Ok, Err}
+use Rattle.std.specs.Prelude.{Ok, Err}
 use Rattle.dp_markup.specs.declared.tree.Element.{Element}
 use Rattle.dp_markup.specs.Grammar.{IsMarkup}
 use Rattle.dp_outside.specs.Causes.{Rose}
 use Rattle.dp_outside.specs.Changes.{Change}
 use Rattle.dp_outside.specs.Streams.{AppendsFront}
-use Rattle.dp_wire.specs.Frames.{IsPacketText, packet_frame, packets_in, rest_of_packets, BeginsPacket, IsPartialPacket, BeginsNoPacket}
+use Rattle.dp_wire.specs.Frames.{IsPacketText, packet_frame, packets_in, rest_of_packets, BeginsPacket, IsPartialPacket}
 use Rattle.dp_wire.specs.Received.{Received, last_place}
-use Rattle.dp_wire.proofs.LengthLaws.{partial-none, refused-never, begins-first}
+use Rattle.dp_wire.proofs.LengthLaws.{partial-none, refused-never}
 use Rattle.dp_wire.proofs.PacketLaws.{packets-first}
 use Rattle.dp_show.specs.declared.errors.ShowError.{ShowError}
 use Rattle.dp_show.specs.declared.errors.ShowError.TheVariants.{PeerEnd, BadPacket, ReadFault, OutFault, Memory}
-use Rattle.dp_show.specs.Lines.{line_of, lines_of, AreMarkup, IsNoMarkup}
+use Rattle.dp_show.specs.Lines.{line_of, lines_of, AreMarkup}
 use Rattle.dp_show.specs.Shows.{Shown, Shows, IsCutShort, Ends, IsBadAt}
 use Rattle.dp_wire.specs.Places.{place_behind, IsRefusedAt}
 use Rattle.dp_show.specs.inner.Progress.{Output, IsLine, HasShown, WasShowing, ShowsOn, IsCut, HasNoMarkup, TextFails, HeldFails, PieceFails}

@@ -1,10 +1,9 @@
 //! Packets are read, and the text of each is written as a line.
 
-ghost use Rattle.std.specs.Prelude.{◌≡◌, ◌<◌, ◌≤◌, ◌++◌, ℕ, List, length, IfOk, IfErr, OnOk, OnErr, MatchResult};
+ghost use Rattle.std.specs.Prelude.{◌≡◌, ◌<◌, ◌≤◌, ◌++◌, ℕ, List, length, IfOk, IfErr, OnOk, OnErr};
 ghost use Rattle.std.specs.Io.KnownBytes.{Appends, Consumes, IsAtEnd};
 ghost use Rattle.dp_outside.specs.Changes.{change};
-ghost use Rattle.dp_wire.specs.Frames.{IsPartialPacket, BeginsNoPacket};
-ghost use Rattle.dp_wire.specs.Received.{IsCause};
+ghost use Rattle.dp_wire.specs.Frames.{IsPartialPacket};
 ghost use Rattle.dp_show.specs.Shows.{Ends};
 ghost use Rattle.dp_show.specs.inner.Progress.{LineOf, IsLine, ShowsOn, TextFails, HeldFails, PieceFails};
 

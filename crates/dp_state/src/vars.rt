@@ -51,7 +51,7 @@ impl Slot {
 }
 
 impl Vars {
-    ghost use Rattle.std.specs.Prelude.{◌≡◌, [], length, is_some, if◌then◌else◌, option_map, slice_get, IfOk, OnOk};
+    ghost use Rattle.std.specs.Prelude.{◌≡◌, [], length, is_some, if◌then◌else◌, option_map, slice_get, OnOk};
     ghost use Rattle.std.specs.Prelude.{OnErr};
     ghost use Rattle.std.specs.List.{IsDistinct};
     ghost use Rattle.std.specs.Map.{keys_of};

@@ -8,7 +8,7 @@ use Rattle.dp_state.specs.declared.state.State.{State}
 use Rattle.dp_actions.specs.AtOnce.{AtOnce}
 use Rattle.dp_actions.specs.Expressions.{evaluation, evaluations}
 use Rattle.dp_actions.specs.Places.{assign_run, assigned_under, coalescing_under, combined, compound_from, compound_under, found_run, read_run}
-use Rattle.dp_actions.specs.Run.{Run, Done, and_then, ◌>>=◌}
+use Rattle.dp_actions.specs.Run.{Done, and_then, ◌>>=◌}
 use Rattle.dp_actions.specs.Setting.{Setting}
 use Rattle.dp_actions.specs.Values.{is_missing}
 use Rattle.dp_actions.proofs.Runs.{and_then-assoc}

@@ -1,9 +1,8 @@
 -- What the outcome of a reader of tokens says of the rule that it reads: the theory of dp_grammar, where what comes
 -- next is told by its sort.
-use Rattle.std.specs.declared.ops.ControlFlow.{ControlFlow}
 use Rattle.std.proofs.Common.{◌≡◌, ℕ, suc, ◌<◌, ◌≤◌, Bool, true, false, ◌||◌, List, [], ◌∷◌, ◌++◌, length, Option, Some, None, Ok, Err, sym, refl, ap, ◌∙◌, subst, cond}
 use Rattle.dp_lexer.specs.declared.token.Token.{Token}
-use Rattle.dp_grammar.specs.declared.refusal.Refusal.TheVariants.{Unexpected, TooDeep, Memory}
+use Rattle.dp_grammar.specs.declared.refusal.Refusal.TheVariants.{Unexpected}
 use Rattle.dp_grammar.specs.Rules.{head as first}
 use Rattle.dp_grammar.proofs.Answers as all
 use Rattle.dp_token_rules.specs.declared.terminal.Terminal.{Terminal}

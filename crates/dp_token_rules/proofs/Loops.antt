@@ -1,7 +1,7 @@
 -- Pieces, each from the value of the last, up to an end, and any number of pieces, over tokens.
 use Rattle.std.specs.declared.ops.ControlFlow.{ControlFlow}
 use Rattle.std.specs.declared.ops.ControlFlow.TheVariants.{Continue, Break}
-use Rattle.std.proofs.Common.{◌≡◌, suc, Bool, true, false, List, [], ◌∷◌, ◌++◌, length, Option, Some, refl, cond}
+use Rattle.std.proofs.Common.{◌≡◌, suc, Bool, true, false, List, [], ◌∷◌, ◌++◌, length, Option, cond}
 use Rattle.dp_lexer.specs.declared.token.Token.{Token}
 use Rattle.dp_grammar.proofs.Answers as theory
 use Rattle.dp_grammar.proofs.Loops as all

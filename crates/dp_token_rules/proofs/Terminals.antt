@@ -1,6 +1,6 @@
 -- Sorts of tokens told apart, and a token of each sort.
 use Rattle.std.specs.List.{list_all}
-use Rattle.std.proofs.Common.{◌≡◌, ◌⊎◌, inl, inr, ℕ, zero, suc, Bool, true, false, not, ◌&&◌, ◌||◌, List, [], ◌∷◌, get_or, Some, None, sym, refl, ap, ◌∙◌, cond, eqb-true, eq-eqb}
+use Rattle.std.proofs.Common.{◌≡◌, inl, inr, ℕ, zero, suc, Bool, true, false, not, ◌||◌, List, [], ◌∷◌, get_or, Some, None, sym, refl, ap, ◌∙◌, cond, eqb-true, eq-eqb}
 use Rattle.dp_lexer.specs.declared.token.Token.{Token}
 use Rattle.dp_lexer.specs.declared.token.TokenKind.{TokenKind}
 use Rattle.dp_token_rules.specs.declared.terminal.Terminal.{Terminal}

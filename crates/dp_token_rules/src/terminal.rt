@@ -1,7 +1,6 @@
 //! The sorts of tokens.
 
-ghost use Rattle.std.specs.Prelude.{◌≡◌, codes};
-ghost use Rattle.std.specs.Str.{bytes_eq};
+ghost use Rattle.std.specs.Prelude.{◌≡◌};
 ghost use Rattle.dp_token_rules.specs.Terminals as spec;
 
 use dp_lexer::{TokenKind, is_reserved};

@@ -1,5 +1,5 @@
 -- Bytes that are no script or no list of events, and the one content of a file.
-use Rattle.std.proofs.Common.{◌≡◌, inl, inr, ℕ, ◌+◌, List, [], take, None, Some, IsSome, refl, sym, ap, ◌∙◌}
+use Rattle.std.proofs.Common.{◌≡◌, inl, inr, ℕ, ◌+◌, List, take, None, Some, IsSome, refl, sym, ap, ◌∙◌}
 use Rattle.dp_outside.specs.Files.{Fetches, Lacks}
 use Rattle.dp_program.specs.Programs.{Files}
 use Rattle.dp_top.specs.declared.failures.Failure.{Failure}

@@ -1,6 +1,6 @@
 -- What a replay came to decides the end of `replay`.
-use Rattle.std.proofs.Common.{◌≡◌, ◌⊎◌, inl, inr, ℕ, suc, ◌+◌, false, true, ◌<◌, ◌≤◌, List, [], ◌∷◌, length, map, take, Option, None, Some, IsSome, Result, Ok, Err, refl, sym, ap, ◌∙◌, subst, arith, append_assoc}
-use Rattle.std.specs.Prelude.{MatchResult, IfOk, IfErr}
+use Rattle.std.proofs.Common.{◌≡◌, ◌⊎◌, inl, inr, ℕ, suc, ◌≤◌, List, [], ◌∷◌, length, take, None, Some, IsSome, Result, Ok, Err, refl, sym, ap, ◌∙◌, subst, arith, append_assoc}
+use Rattle.std.specs.Prelude.{IfOk}
 use Rattle.dp_outside.specs.Causes.{Rose}
 use Rattle.dp_outside.specs.Changes.{Change, IsUntouched}
 use Rattle.dp_outside.specs.Files.{Fetches}
@@ -22,11 +22,11 @@ use Rattle.dp_top.specs.declared.failures.Failure.TheVariants as failure
 use Rattle.dp_top.specs.declared.failures.Refused.{Refused}
 use Rattle.dp_top.specs.Failures.{status_of}
 use Rattle.dp_top.specs.inner.Completeness.{IsComplete}
-use Rattle.dp_top.specs.Replay.{IsListFile, IsReplayed, ReadBefore, ReplayFails}
+use Rattle.dp_top.specs.Replay.{IsListFile, ReadBefore, ReplayFails}
 use Rattle.dp_top.specs.Lines.{IsBadAt, Unread, lines_limit}
 use Rattle.dp_top.specs.Runs.{AreFetched as OnlyFetched, IsProgramReported}
 use Rattle.dp_top.specs.inner.BadLines.{AreNone, UnreadSo}
-use Rattle.dp_top.specs.inner.EventLists.{EndsFetched, EndsOver, EndsReplay, IsWholeList}
+use Rattle.dp_top.specs.inner.EventLists.{EndsOver, EndsReplay, IsWholeList}
 use Rattle.dp_top.proofs.LineLaws.{held_or_lacking, same_content}
 use Rattle.dp_words.specs.CommandLine.{Invocation}
 

@@ -1,5 +1,5 @@
 -- What is told of a replay decides the answer of the top call.
-use Rattle.std.proofs.Common.{◌≡◌, ◌≢◌, ◌⊎◌, inl, inr, ⊎_elim, ℕ, ◌≤◌, true, false, List, [], length, IsSome, Result, Ok, Err, refl, sym, ap, ◌∙◌, subst, arith}
+use Rattle.std.proofs.Common.{◌≡◌, ◌⊎◌, inl, inr, ⊎_elim, ℕ, List, IsSome, Result, Ok, Err, refl, sym, ap, ◌∙◌, subst, arith}
 use Rattle.dp_outside.specs.Causes.{Rose}
 use Rattle.dp_outside.specs.Changes.{Change}
 use Rattle.dp_bundle.specs.declared.errors.BundleError.{BundleError}
@@ -9,7 +9,7 @@ use Rattle.dp_lists.specs.declared.event.Event.{Event}
 use Rattle.dp_lists.specs.Lists.{IsFirstBad}
 use Rattle.dp_program.specs.declared.errors.ProgramError.{ProgramError}
 use Rattle.dp_program.specs.declared.errors.ProgramError.TheVariants as none
-use Rattle.dp_program.specs.Programs.{Files, FilesMake, IsComplete as IsRunComplete, ProgramCaused, refusal}
+use Rattle.dp_program.specs.Programs.{Files, FilesMake, IsComplete as IsRunComplete, ProgramCaused}
 use Rattle.dp_program.proofs.RunLaws.{complete_unfetched}
 use Rattle.dp_top.specs.declared.failures.Failure.{Failure}
 use Rattle.dp_top.specs.declared.failures.Failure.TheVariants as failure

@@ -1,5 +1,5 @@
 //! Why a command fails, and what is reported of it.
-ghost use Rattle.std.specs.Prelude.{◌≡◌, ◌⊎◌, ◌≤◌, ◌++◌, ℕ, IfOk, codes, decimal};
+ghost use Rattle.std.specs.Prelude.{◌≡◌, ◌⊎◌, ◌≤◌, ◌++◌, IfOk, codes, decimal};
 ghost use Rattle.dp_outside.specs.Changes.{change};
 ghost use Rattle.dp_top.specs.Sources.{failure_of, reason_name, bad_source};
 ghost use Rattle.dp_top.specs.Failures.{status_of, line_of, kind_name, fatal_line, found_text, script_line, Says};

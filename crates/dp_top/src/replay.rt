@@ -1,5 +1,5 @@
 //! The command `replay`: the transcript of a list of events, with engines in memory.
-ghost use Rattle.std.specs.Prelude.{◌≡◌, ◌∷◌, ◌<◌, ◌≤◌, [], List, Result, map, IfOk, IfErr, MatchResult};
+ghost use Rattle.std.specs.Prelude.{◌≡◌, ◌∷◌, ◌<◌, ◌≤◌, [], List, Result, map, IfOk, IfErr};
 ghost use Rattle.dp_outside.specs.Changes.{change};
 ghost use Rattle.dp_outside.specs.Files.{Fetches};
 ghost use Rattle.dp_outside.specs.Reports.{grown};

@@ -1,12 +1,11 @@
 //! The keys and values of an array, side by side.
 
-ghost use Rattle.std.specs.Prelude.{◌≡◌, ◌==◌, ◌+◌, ◌<◌, ◌≤◌, ◌↔◌, ◌⊎◌, [], min, length, map, drop, slice_get};
-ghost use Rattle.std.specs.Prelude.{is_some, option_map, IfSome, MatchOption, IfOk, OnOk, OnErr, IfErr, IsErrOf};
-ghost use Rattle.dp_value.specs.Key.{key_eq};
+ghost use Rattle.std.specs.Prelude.{◌≡◌, ◌==◌, ◌+◌, ◌<◌, ◌≤◌, ◌↔◌, ◌⊎◌, [], min, length, map, slice_get};
+ghost use Rattle.std.specs.Prelude.{is_some, option_map, IfOk, OnOk, OnErr, IfErr, IsErrOf};
 ghost use Rattle.dp_value.specs.Data.{pairs_weight};
 ghost use Rattle.dp_value.specs.Table.{empty, keys_of, values_of, value_at, put, table_set, table_remove};
 ghost use Rattle.dp_value.specs.Table.{table_exchange, swapped, weight_limit, IsTable, raised as raised_by};
-ghost use Rattle.dp_value.specs.Value.{data_of, pairs_in};
+ghost use Rattle.dp_value.specs.Value.{data_of};
 ghost use Rattle.dp_value.specs.inner.Writes.{IsTooMuch};
 
 use crate::key_column::KeyColumn;

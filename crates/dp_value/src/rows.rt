@@ -4,7 +4,7 @@
 //! left. Then they are cleared at once. So a queue takes a constant time for each entry on average, and what is kept
 //! is at most twice what is left, and a few more.
 
-ghost use Rattle.std.specs.Prelude.{◌≡◌, ◌+◌, ◌<◌, ◌≤◌, length, map, take, drop, remove, IfSome, MatchOption};
+ghost use Rattle.std.specs.Prelude.{◌≡◌, ◌+◌, ◌<◌, ◌≤◌, length, take, drop, remove, IfSome, MatchOption};
 ghost use Rattle.std.specs.Prelude.{OnOk, OnErr};
 ghost use Rattle.dp_value.specs.Key.{key_eq};
 ghost use Rattle.dp_value.specs.Data.{pairs_weight};

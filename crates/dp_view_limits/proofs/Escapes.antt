@@ -1,5 +1,5 @@
 -- How long names are where they are escaped.
-use Rattle.std.proofs.Common.{◌≡◌, ℕ, ℤ, ◌+◌, List, [], ◌∷◌, ◌++◌, length, codes, arith, length-append}
+use Rattle.std.proofs.Common.{◌≡◌, ℕ, ℤ, ◌+◌, List, [], ◌∷◌, ◌++◌, codes, arith, length-append}
 use Rattle.std.specs.Prelude.{flat_map}
 use Rattle.std.specs.Fmt.{signed_decimal}
 use Rattle.dp_markup.specs.Escapes.{escaped, escaped_all}

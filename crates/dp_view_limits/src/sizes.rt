@@ -1,7 +1,7 @@
 //! What is left of so many bytes behind the texts that a property is made of: counted, and not built. No call takes
 //! memory.
 
-ghost use Rattle.std.specs.Prelude.{◌≡◌, decimal, flat_map, length, take};
+ghost use Rattle.std.specs.Prelude.{◌≡◌, decimal, flat_map};
 ghost use Rattle.std.specs.Fmt.{signed_decimal};
 ghost use Rattle.dp_packet.specs.Parts.{base64};
 ghost use Rattle.dp_value.specs.Quotes.{in_quotes};

@@ -1,14 +1,13 @@
 -- Bytes are split into packets and a rest in one way.
-use Rattle.std.proofs.Common.{◌≡◌, ℕ, zero, suc, ◌+◌, ◌*◌, ◌-◌, ◌^◌, ◌<◌, ◌≤◌, Bool, true, false, not, ◌&&◌, cond, eqb, leb, List, [], ◌∷◌, ◌++◌, length, take, drop, refl, sym, ap, ◌∙◌, subst, append_assoc, append-nil, arith, rules, decimal, length-append, length-drop}
+use Rattle.std.proofs.Common.{◌≡◌, ℕ, zero, suc, ◌+◌, ◌<◌, ◌≤◌, Bool, true, false, ◌&&◌, cond, eqb, leb, List, [], ◌∷◌, ◌++◌, length, take, drop, refl, sym, ap, ◌∙◌, subst, append_assoc, append-nil, arith, rules, decimal, length-append}
 use Rattle.std.specs.List.{flat_map, AllByRecursion}
-use Rattle.std.specs.Str.Parse.{digits_value, AllDigits}
-use Rattle.std.specs.Char.{digit_value}
+use Rattle.std.specs.Str.Parse.{digits_value}
 use Rattle.std.proofs.lemmas.Bool.{and_parts, and_from, leb-true, le-leb, eqb-true, false≢true}
 use Rattle.std.proofs.lemmas.Str.Parse.{IsNumeralModel, numerals_by_value}
 use Rattle.std.proofs.lemmas.Fmt.{digits_decimal, decimal_is_IsNumeral, decimal_injective}
 use Rattle.std.proofs.lemmas.List.{take_at, drop_at}
 use Rattle.std.proofs.Math.Seq.{drop-append_seam}
-use Rattle.dp_wire.specs.Frames.{has_no_nul, Splits, Begins, BeginsPacket, IsPartialPacket, IsPacketText, packet_frame, packet_limit, up_to_nul, front_text, begins_with, is_packet_first, first_packets, packets_in, rest_of_packets}
+use Rattle.dp_wire.specs.Frames.{has_no_nul, Splits, BeginsPacket, IsPacketText, packet_frame, packet_limit, up_to_nul, front_text, begins_with, is_packet_first, first_packets, packets_in, rest_of_packets}
 use Rattle.dp_wire.proofs.FrameLaws.{same_text, no_nul-head, no_nul-tail}
 
 -- ---- digits

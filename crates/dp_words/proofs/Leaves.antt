@@ -1,21 +1,18 @@
 -- How a command with words behind it is read.
-use Rattle.std.proofs.Common.{◌≡◌, ℕ, zero, suc, ◌+◌, ◌<◌, ◌≤◌, Bool, true, false, ◌&&◌, ◌||◌, not, List, [], ◌∷◌, ◌++◌, length, Option, Some, None, refl, sym, ap, ap₂, ◌∙◌, arith, codes, append_assoc, append-nil}
-use Rattle.std.specs.Prelude.{if◌then◌else◌, fold, option_and_then, option_map, find, nat_lt, ◌==◌}
+use Rattle.std.proofs.Common.{◌≡◌, ℕ, suc, ◌+◌, ◌≤◌, Bool, true, false, ◌&&◌, not, List, [], ◌∷◌, ◌++◌, length, Option, Some, None, refl, sym, ap, ap₂, ◌∙◌, arith, codes, append_assoc, append-nil}
+use Rattle.std.specs.Prelude.{if◌then◌else◌, fold, option_and_then, nat_lt, ◌==◌}
 use Rattle.std.specs.List.{list_all}
 use Rattle.std.specs.Option.{option_map_or}
 use Rattle.std.specs.Str.{bytes_eq}
 use Rattle.clap.specs.Lexer.{long_of, long_of_rest, short_of, short_of_rest, strip_byte, usize_max}
-use Rattle.clap.specs.Simple.{App, Shape, built, built_leaf, inherited, is_simple, filled, with_index}
-use Rattle.clap.specs.Facts.{Entry}
+use Rattle.clap.specs.Simple.{Shape, built, built_leaf, inherited, filled, with_index}
 use Rattle.clap.specs.Kinds.{Kinds, or_else, range_kinds, values_kinds}
 use Rattle.clap.specs.declared.error.kind.ErrorKind.{ErrorKind}
 use Rattle.clap.specs.declared.error.kind.ErrorKind.TheVariants as kind
 use Rattle.clap.specs.declared.builder.value_parser.ValueParser.TheVariants as vp
 use Rattle.std.proofs.lemmas.Bool.Decides.{nat_tests}
-use Rattle.clap.specs.Faults.{fault_of, is_simple_and_free, level_fault, walk_fault, turn_fault, word_fault, other_fault, flag_word_fault, bundle_fault, step_fault, settle_fault, defaults_fault, check_fault, use_fault}
-use Rattle.clap.specs.Walk.{Held, Row, Rule, Text, Waiting, Walk, Step, idle, option, positional, walked, walk, walk_from, nothing_held, after_step, to_positional, word_met, plain_word, subcommand_or_other, long_or_other, short_or_plain, value, trailing, rows_after, settled, finished}
-use Rattle.clap.specs.declared.parser.matches.ValueSource.TheVariants.{CommandLine}
-use Rattle.clap.specs.declared.builder.value_parser.Reading.TheVariants as reading
+use Rattle.clap.specs.Faults.{level_fault, walk_fault, turn_fault, other_fault, flag_word_fault, bundle_fault, step_fault, settle_fault, defaults_fault, check_fault, use_fault}
+use Rattle.clap.specs.Walk.{Held, Row, Rule, Text, Waiting, Walk, Step, idle, option, positional, walked, walk, walk_from, nothing_held, after_step, plain_word, subcommand_or_other, long_or_other, short_or_plain, trailing, rows_after, settled, finished}
 use Rattle.clap.proofs.OnLiterals.{clap_on_literals}
 use Rattle.dp_words.specs.Plain.{is_plain}
 use Rattle.dp_words.specs.inner.Rows.{bound_row, words_row}

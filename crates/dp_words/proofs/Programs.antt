@@ -1,14 +1,13 @@
 -- How the whole command is read.
-use Rattle.std.proofs.Common.{◌≡◌, ℕ, zero, suc, ◌+◌, ◌<◌, ◌≤◌, Bool, true, false, ◌&&◌, ◌||◌, not, List, [], ◌∷◌, ◌++◌, length, Option, Some, None, is_some, refl, sym, ap, ap₂, ◌∙◌, arith, codes, append_assoc, append-nil}
-use Rattle.std.specs.Prelude.{if◌then◌else◌, fold, find, option_map, ◌==◌}
-use Rattle.std.specs.Str.{bytes_eq}
-use Rattle.clap.specs.Simple.{App, Shape, built, entered, is_simple, subcommand_of, rows_at, names_of}
+use Rattle.std.proofs.Common.{◌≡◌, ◌+◌, true, false, List, [], ◌∷◌, ◌++◌, Option, Some, None, is_some, refl, sym, ap, ap₂, ◌∙◌, codes, append_assoc, append-nil}
+use Rattle.std.specs.Prelude.{fold, find, option_map}
+use Rattle.clap.specs.Simple.{Shape, built, entered, is_simple, subcommand_of, names_of}
 use Rattle.clap.specs.Kinds.{Kinds, or_else}
-use Rattle.clap.specs.Faults.{fault_of, built_fault, entered_fault, level_fault, walk_fault, turn_fault, settle_fault, defaults_fault, check_fault, other_fault, is_simple_and_free}
-use Rattle.clap.specs.Walk.{Held, Names, Row, Rule, Text, Walk, Step, idle, walked, walk, nothing_held, rows_after, settled, finished, answers_to, subcommand_or_other}
+use Rattle.clap.specs.Faults.{fault_of, entered_fault, walk_fault, turn_fault, settle_fault, defaults_fault, check_fault, other_fault, is_simple_and_free}
+use Rattle.clap.specs.Walk.{Names, Text, Walk, idle, walked, walk, nothing_held, rows_after, settled, finished, answers_to, subcommand_or_other}
 use Rattle.clap.proofs.OnLiterals.{clap_on_literals}
-use Rattle.dp_words.specs.inner.Shapes.{bounded, unbounded, wordless, program}
-use Rattle.dp_words.proofs.Leaves.{S, above, alone, at, fault, start, by_met, met, plain_is, no_flag, fault_met, Plain}
+use Rattle.dp_words.specs.inner.Shapes.{program}
+use Rattle.dp_words.proofs.Leaves.{S, above, alone, fault, start, met, plain_is, no_flag, fault_met}
 use Rattle.dp_words.specs.Plain.{is_plain}
 use Rattle.clap.specs.declared.error.kind.ErrorKind.TheVariants as kind
 

@@ -1,5 +1,5 @@
 //! The lines of the transcript.
-ghost use Rattle.std.specs.Prelude.{◌≡◌, ◌<◌, ◌/◌, ◌%◌, ◌++◌, ◌∷◌, [], ℕ, List, flat_map, codes, decimal, OnOk};
+ghost use Rattle.std.specs.Prelude.{◌≡◌, ◌<◌, ◌/◌, ◌%◌, ◌++◌, ◌∷◌, [], flat_map, codes, decimal, OnOk};
 ghost use Rattle.dp_lists.specs.Lists.{digit as digit_of, hex};
 ghost use Rattle.dp_world.specs.Transcript as spec;
 

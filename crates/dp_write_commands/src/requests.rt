@@ -1,6 +1,6 @@
 //! The write that a command asks for.
 
-ghost use Rattle.std.specs.Prelude.{◌≡◌, Ok, ok_or, option_map, IfOk, IfSome};
+ghost use Rattle.std.specs.Prelude.{◌≡◌, Ok, option_map, IfOk};
 ghost use Rattle.dp_view.specs.Answers.{AnswersAfter};
 ghost use Rattle.dp_view.specs.Named.{named_path as path_of_name};
 ghost use Rattle.dp_write_commands.specs.Requests as spec;

@@ -21,7 +21,7 @@ use Rattle.dp_proxy.specs.declared.kept.Step.{Step}
 use Rattle.dp_proxy.specs.declared.passes.Passing.{Passing}
 use Rattle.dp_proxy.specs.declared.passes.Passing.TheVariants.{Answered, Closed, Broken}
 use Rattle.dp_proxy.specs.Links.{passed, ends}
-use Rattle.dp_proxy.specs.Pasts.{Link, Asking, Settled, Lead, lead, question, listening}
+use Rattle.dp_proxy.specs.Pasts.{Link, Asking, Settled, lead, question, listening}
 use Rattle.dp_proxy.specs.Places.{BreaksAt}
 use Rattle.dp_proxy.specs.Invariant.{IsKept, session_in}
 use Rattle.dp_proxy.specs.Steps.{AnswersAt}

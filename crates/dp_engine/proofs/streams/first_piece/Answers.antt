@@ -1,4 +1,4 @@
-use Rattle.std.proofs.Common.{arith, sym, take_all}
+use Rattle.std.proofs.Common.{sym, take_all}
 use Rattle.std.proofs.lemmas.List.{drop_all}
 use Rattle.dp_engine.proofs.streams.first_piece.Goals as goal
 

@@ -1,4 +1,4 @@
-use Rattle.std.proofs.Common.{◌≡◌, ℕ, Option, Some, None, Ok, refl, subst}
+use Rattle.std.proofs.Common.{◌≡◌, ℕ, Option, Some, refl, subst}
 use Rattle.std.specs.Option.{IfSome}
 use Rattle.std.specs.declared.ops.Range.{Range}
 use Rattle.dp_wire.specs.Places.{refused_at}

@@ -1,4 +1,4 @@
-use Rattle.std.proofs.Common.{◌≡◌, ℕ, List, [], subst}
+use Rattle.std.proofs.Common.{ℕ, List, subst}
 use Rattle.dp_lanes.specs.inner.Deliveries.{HandsAll}
 use Rattle.dp_lanes.proofs.StreamLaws.{carried}
 use Rattle.dp_lanes.proofs.moves.carry.Goals as goal

@@ -1,7 +1,7 @@
 use Rattle.std.proofs.Common.{◌≡◌, ◌-◌, ◌∙◌, length, inl, ap, subst, sym}
 use Rattle.dp_markup.specs.declared.errors.MarkupError.TheVariants.{BadMarkup}
 use Rattle.dp_grammar.specs.declared.refusal.Refusal.TheVariants.{Unexpected, TooDeep}
-use Rattle.dp_markup.specs.Grammar.{BeginsWithHead, heads, root_value}
+use Rattle.dp_markup.specs.Grammar.{heads, root_value}
 use Rattle.dp_markup.specs.inner.Search.{sought_head}
 use Rattle.dp_markup.specs.Refused.{IsFirstBad}
 use Rattle.dp_markup.proofs.SearchLaws.{sought_found}

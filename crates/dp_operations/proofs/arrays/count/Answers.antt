@@ -1,4 +1,4 @@
-use Rattle.std.proofs.Common.{◌≡◌, ℤ, length, Ok, pos, w64, sym, ap, rules, ◌∙◌}
+use Rattle.std.proofs.Common.{ℤ, Ok, w64, sym, ap, rules, ◌∙◌}
 use Rattle.std.proofs.lemmas.Int.{to_z-of_z}
 use Rattle.std.specs.Int.RustNames.{FitsSigned}
 use Rattle.dp_value.specs.inner.Codes.{pairs_of-entries_of}

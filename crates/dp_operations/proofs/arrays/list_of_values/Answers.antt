@@ -1,10 +1,10 @@
-use Rattle.std.proofs.Common.{◌≡◌, ◌≤◌, ◌<◌, ◌+◌, ◌++◌, ◌∷◌, [], List, length, map, take, drop, get_or, Ok, Err, MatchResult, subst, ap, sym, ◌∙◌, arith}
+use Rattle.std.proofs.Common.{◌<◌, ◌+◌, length, map, take, drop, ap, ◌∙◌, arith}
 use Rattle.std.proofs.lemmas.Result.{err_from_is_err_and}
 use Rattle.dp_value.specs.declared.value.Value.{Value}
-use Rattle.dp_value.specs.Data.{Data, Table}
+use Rattle.dp_value.specs.Data.{Table}
 use Rattle.dp_value.specs.Table.{table_push}
 use Rattle.dp_value.specs.Value.{data_of}
-use Rattle.dp_operations.specs.Lists.{list_of, light_array}
+use Rattle.dp_operations.specs.Lists.{list_of}
 use Rattle.dp_operations.proofs.ListLemmas.{push-list_of, split_at, grown, refused}
 use Rattle.dp_operations.proofs.arrays.list_of_values.Goals as goal
 

@@ -1,7 +1,5 @@
-use Rattle.std.proofs.Common.{◌≡◌, Some, None, Ok, Err, IfOk, refl, sym, subst}
+use Rattle.std.proofs.Common.{Some, None, Ok, Err, refl, sym, subst}
 use Rattle.std.proofs.lemmas.Result.{IfOk-weaker}
-use Rattle.std.specs.Result.{MatchResult}
-use Rattle.dp_registry.specs.declared.refusal.Refusal.TheVariants as refusal
 use Rattle.dp_registry.specs.Verdicts.{admit_reply_of}
 use Rattle.dp_proxy.specs.declared.events.Act.TheVariants.{Engine}
 use Rattle.dp_proxy.specs.declared.kept.Kept.TheVariants as keep

@@ -1,4 +1,4 @@
-use Rattle.std.proofs.Common.{◌≡◌, ◌∙◌, sym, ap, subst, inl, inr}
+use Rattle.std.proofs.Common.{◌∙◌, sym, ap, subst, inr}
 use Rattle.dp_packet.specs.declared.packet.Packet.TheVariants as packet
 use Rattle.dp_packet.specs.declared.packet.ProxyReply.{ProxyReply}
 use Rattle.dp_packet.specs.Text.{text}

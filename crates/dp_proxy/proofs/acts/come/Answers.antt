@@ -1,7 +1,6 @@
-use Rattle.std.proofs.Common.{◌≡◌, None, refl, sym, subst}
+use Rattle.std.proofs.Common.{None, refl, sym, subst}
 use Rattle.dp_proxy.specs.declared.events.Act.{Act}
 use Rattle.dp_proxy.specs.declared.events.Act.TheVariants.{Given, Moved, Closed}
-use Rattle.dp_proxy.specs.declared.kept.Step.{Step}
 use Rattle.dp_proxy.specs.Pasts.{New}
 use Rattle.dp_proxy.specs.inner.Acts.{Leads}
 use Rattle.dp_proxy.proofs.ActLaws.{without_effect_leads, given_before, moved_before, closed_before}

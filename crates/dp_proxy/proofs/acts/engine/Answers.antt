@@ -1,4 +1,4 @@
-use Rattle.std.proofs.Common.{◌≡◌, refl, sym, ◌∙◌}
+use Rattle.std.proofs.Common.{refl, sym, ◌∙◌}
 use Rattle.std.proofs.lemmas.Bool.{false≢true}
 use Rattle.dp_proxy.proofs.KeyLaws.{key_is, key_again}
 use Rattle.dp_proxy.proofs.ActLaws.{keyless_leads}

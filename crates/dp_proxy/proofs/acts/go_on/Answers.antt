@@ -1,5 +1,4 @@
-use Rattle.std.proofs.Common.{◌≡◌, refl, subst}
-use Rattle.dp_proxy.specs.declared.passes.Passing.{Passing}
+use Rattle.std.proofs.Common.{refl, subst}
 use Rattle.dp_proxy.specs.inner.Acts.{Passes}
 use Rattle.dp_proxy.proofs.ActLaws.{on_leads, closed_leads, broken_leads, dismissed_leaves}
 use Rattle.dp_proxy.proofs.acts.go_on.Goals as goal

@@ -1,4 +1,4 @@
-use Rattle.std.proofs.Common.{◌≡◌, ◌∙◌}
+use Rattle.std.proofs.Common.{◌∙◌}
 use Rattle.dp_lanes.specs.declared.lane.LaneKind.TheVariants.{Up, Down}
 use Rattle.dp_proxy.specs.declared.events.Effect.TheVariants.{Admitted}
 use Rattle.dp_proxy.specs.declared.kept.Kept.TheVariants as keep

@@ -1,4 +1,4 @@
-use Rattle.std.proofs.Common.{◌≡◌, [], ◌∷◌, ◌++◌, List, refl, sym, subst}
+use Rattle.std.proofs.Common.{[], ◌∷◌, ◌++◌, refl, sym, subst}
 use Rattle.dp_proxy.specs.declared.events.Act.{Act}
 use Rattle.dp_proxy.specs.declared.events.Act.TheVariants.{Closed}
 use Rattle.dp_proxy.specs.inner.Lanes.{FollowBoth}

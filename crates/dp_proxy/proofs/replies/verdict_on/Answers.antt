@@ -1,4 +1,4 @@
-use Rattle.std.proofs.Common.{◌≡◌, ◌⊎◌, List, ℕ, sym, ap, ◌∙◌, inl, inr}
+use Rattle.std.proofs.Common.{List, ℕ, sym, ap, ◌∙◌, inl, inr}
 use Rattle.dp_registry.specs.Verdicts.{register_verdict, stop_verdict}
 use Rattle.dp_proxy.specs.Replies.{verdict_on}
 use Rattle.dp_proxy.proofs.replies.verdict_on.Goals as goal

@@ -1,4 +1,4 @@
-use Rattle.std.proofs.Common.{ℕ, ◌-◌, List, take, drop, sym, subst, arith}
+use Rattle.std.proofs.Common.{ℕ, ◌-◌, List, take, drop, subst, arith}
 use Rattle.dp_outside.specs.Changes.{change}
 use Rattle.dp_show.specs.inner.Progress.{IsLine, TextFails}
 use Rattle.dp_show.proofs.ShowLaws.{packet_shown, text_failed, then_shows}

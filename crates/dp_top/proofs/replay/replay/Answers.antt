@@ -1,4 +1,4 @@
-use Rattle.std.proofs.Common.{◌≡◌, List, ℕ, Ok, Err, map, string_bytes, refl, sym, subst}
+use Rattle.std.proofs.Common.{List, ℕ, Ok, Err, map, string_bytes, refl, sym, subst}
 use Rattle.std.specs.Prelude.{⊤}
 use Rattle.dp_outside.specs.Changes.{change}
 use Rattle.dp_outside.specs.Files.{Fetches}

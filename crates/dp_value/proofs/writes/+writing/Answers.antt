@@ -10,7 +10,6 @@ use Rattle.dp_value.specs.Entry.{entry_at, holder_of, within, IsCause}
 use Rattle.dp_value.specs.inner.Writes.{written_in}
 use Rattle.dp_value.proofs.WriteLemmas.{at_exit, on_err, err-along, ok-along, written-entered, written-refused, holder_of-table, exchange-none, exchange-exchange, data-along, weight-swapped_null, IsBehind, behind-done, behind-cause, behind-light, behind-refused, behind-back, behind-ok, behind-err}
 use Rattle.dp_value.proofs.writes.+writing.Goals as goal
-use Rattle.dp_value.proofs.writes.+writing.Goals.{write-in-Bool+then-value, write-in-Int-1}
 
 pub write-returns-in-Array-clause-ok : goal.write-returns-in-Array-clause-ok
 write-returns-in-Array-clause-ok t c =

@@ -1,4 +1,4 @@
-use Rattle.std.proofs.Common.{refl, arith, rules, ◌∙◌, sym, inl, inr}
+use Rattle.std.proofs.Common.{refl, arith, ◌∙◌, sym}
 use Rattle.dp_wire.proofs.LengthLaws.{digit_spelt, bad_here, passed_here, length_digits-some}
 use Rattle.dp_wire.proofs.length.read_length.Goals as goal
 use Rattle.dp_wire.proofs.length.read_length.Goals.{else-byte-eq0-via-then-byte-eq0+else-length-gt0, else-byte-eq0-via-else-byte-eq0}

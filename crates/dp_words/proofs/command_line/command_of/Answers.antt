@@ -1,4 +1,4 @@
-use Rattle.std.proofs.Common.{◌≡◌, ℕ, List, Option, Some, None, rules, codes}
+use Rattle.std.proofs.Common.{◌≡◌, Option, Some, None, rules, codes}
 use Rattle.std.specs.Prelude.{IfNone}
 use Rattle.dp_words.proofs.Readings.{no_engine_read, no_ide_read, no_replay_read, no_show_read}
 use Rattle.dp_words.specs.inner.Commands.{parsed_seen}

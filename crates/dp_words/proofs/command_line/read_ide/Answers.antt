@@ -1,4 +1,4 @@
-use Rattle.std.proofs.Common.{◌≡◌, ℕ, List, Option, Some, None, true, false, rules, sym, ◌∙◌, ap}
+use Rattle.std.proofs.Common.{◌≡◌, Option, Some, None, true, rules}
 use Rattle.std.specs.Prelude.{IfNone, IfSome, option_map}
 use Rattle.std.specs.Option.{is_some}
 use Rattle.dp_words.specs.inner.Commands.{parsed_seen}

@@ -1,4 +1,4 @@
-use Rattle.std.proofs.Common.{◌≡◌, true, false, sym, ◌∙◌, rules}
+use Rattle.std.proofs.Common.{◌≡◌, true, false, sym, ◌∙◌}
 use Rattle.dp_words.proofs.Readings.{asks_plain}
 use Rattle.dp_words.proofs.command_line.read_words.Goals as goal
 

@@ -1,12 +1,9 @@
-use Rattle.std.proofs.Common.{◌≡◌, ◌⊎◌, ℕ, ◌≤◌, List, [], Result, Ok, Option, None, Global, String, refl, sym, ap, ap₂, subst, ◌∙◌, arith, map, length, string_bytes, inl, inr, ⊎_elim}
-use Rattle.std.specs.Result.{MatchResult}
+use Rattle.std.proofs.Common.{◌⊎◌, ℕ, ◌≤◌, List, [], sym, ap, subst, ◌∙◌, arith, map, length, string_bytes, ⊎_elim}
 use Rattle.std.proofs.lemmas.List.{length-map}
 use Rattle.clap.specs.Faults.{fault_of, is_simple_and_free}
 use Rattle.clap.specs.Kinds.{Kinds, HasKind}
 use Rattle.clap.specs.Lexer.{usize_max}
 use Rattle.clap.specs.Simple.{App, is_simple, subcommand_of}
-use Rattle.dp_words.specs.inner.Rows.{AreRows}
-use Rattle.dp_words.specs.inner.Shapes.{program}
 use Rattle.dp_words.proofs.Programs.{free, simple}
 use Rattle.dp_words.proofs.Readings.{HasFault, IsRead, IsUnread, reads}
 use Rattle.dp_words.proofs.parser.parse.Goals as goal

@@ -1,10 +1,10 @@
-use Rattle.std.proofs.Common.{◌≡◌, ℕ, List, false, true, Bool, rules, ap, ap₂, sym, ◌∙◌, refl, codes}
+use Rattle.std.proofs.Common.{◌≡◌, false, true, rules, ap, ap₂, ◌∙◌, refl, codes}
 use Rattle.std.proofs.lemmas.Result.{IfOk-weaker}
-use Rattle.clap.specs.Words.{App, Shape, app_of, shape_of, with_subcommand}
+use Rattle.clap.specs.Words.{App, Shape, shape_of, with_subcommand}
 use Rattle.clap.specs.declared.builder.command.Command.{Command}
 use Rattle.clap.specs.declared.builder.command.Command.TheViews.{out-Command}
 use Rattle.clap.proofs.SimpleLemmas.{plain_fields}
-use Rattle.dp_words.specs.inner.Shapes.{bounded, program, settings, unbounded, wordless}
+use Rattle.dp_words.specs.inner.Shapes.{bounded, settings, unbounded, wordless}
 use Rattle.dp_words.proofs.parser.program.Goals as goal
 
 -- a command of a plain shape has no global argument

@@ -1,4 +1,3 @@
-use Rattle.std.proofs.Common.{rules}
 use Rattle.dp_links.specs.Fakes.{IsFresh}
 use Rattle.dp_links.proofs.Fresh.{begins_all}
 use Rattle.dp_links.proofs.dialer.ListDialer.next_link.Goals as goal

@@ -1,4 +1,3 @@
-use Rattle.std.proofs.Common.{rules}
 use Rattle.dp_links.specs.Fakes.{IsFreshCall}
 use Rattle.dp_links.proofs.Fresh.{begins_all}
 use Rattle.dp_links.proofs.gate.ListGate.next_link.Goals as goal

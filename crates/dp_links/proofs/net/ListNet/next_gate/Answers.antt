@@ -1,4 +1,3 @@
-use Rattle.std.proofs.Common.{rules}
 use Rattle.dp_links.specs.Fakes.{IsFreshGate}
 use Rattle.dp_links.proofs.Fresh.{next_all}
 use Rattle.dp_links.proofs.net.ListNet.next_gate.Goals as goal

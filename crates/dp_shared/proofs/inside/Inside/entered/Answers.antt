@@ -1,6 +1,6 @@
 use Rattle.std.proofs.Common.{ap, ◌∙◌}
 use Rattle.dp_value.specs.declared.value.Value.{Value}
-use Rattle.dp_shared.specs.Inside.{inside_of, stepped}
+use Rattle.dp_shared.specs.Inside.{stepped}
 use Rattle.dp_shared.proofs.Insides.{inside-more}
 use Rattle.dp_shared.proofs.inside.Inside.entered.Goals as goal
 

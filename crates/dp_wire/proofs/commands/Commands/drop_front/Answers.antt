@@ -1,6 +1,5 @@
-use Rattle.std.proofs.Common.{◌≡◌, ℕ, ◌+◌, Option, Some, None, List, ◌∷◌, ◌++◌, take, drop, length, min, true, subst, sym, ap, ◌∙◌, arith, length-append}
+use Rattle.std.proofs.Common.{◌≡◌, ℕ, ◌+◌, Option, Some, None, drop, length, min, subst, sym, ap, ◌∙◌}
 use Rattle.std.proofs.lemmas.List.{drop-drop}
-use Rattle.dp_wire.specs.Frames.{BeginsCommand, command_frame, has_no_nul}
 use Rattle.dp_wire.specs.Frames.{FirstNul}
 use Rattle.dp_wire.specs.Received.{Received, last_place}
 use Rattle.dp_wire.proofs.NextLaws.{some_rest, some_length, none_begins}

@@ -1,4 +1,4 @@
-use Rattle.std.proofs.Common.{◌≡◌, ◌+◌, ℕ, List, Ok, drop, min, refl, sym, ap, ◌∙◌, arith}
+use Rattle.std.proofs.Common.{◌+◌, Ok, drop, min, refl, sym, ap, ◌∙◌}
 use Rattle.std.proofs.lemmas.List.{drop-drop}
 use Rattle.dp_wire.specs.Received.{Received, last_place}
 use Rattle.dp_wire.proofs.LengthLaws.{begins_partial, begins_refused, dropped_is}

@@ -1,5 +1,5 @@
 use Rattle.std.proofs.Common.{◌≡◌, ◌≢◌, ℕ, ◌+◌, ◌<◌, ◌≤◌, List, length, get_or, drop, slice_range, refl, sym, ap, ◌∙◌, subst, arith}
-use Rattle.dp_wire.specs.Frames.{BeginsPacket, BeginsNoPacket, IsPartialPacket, packet_limit}
+use Rattle.dp_wire.specs.Frames.{BeginsPacket, IsPartialPacket, packet_limit}
 use Rattle.dp_wire.specs.Received.{LacksNul}
 use Rattle.dp_wire.specs.inner.Lengths.{IsLength}
 use Rattle.dp_wire.specs.declared.length.Length.{Length}
