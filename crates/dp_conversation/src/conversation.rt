@@ -39,7 +39,7 @@ impl<A: Responder> Conversation<A> {
     pub fn feed(&mut self, piece: &[u8]) -> Result<(), Memory>
         ensures session { self.new.session ≡ self.old.session }
         ensures ok { OnOk result (self.new.held.held ≡ self.old.held.held ++ piece.now) }
-        ensures err { OnErr result (self.new.held.held ≡ self.old.held.held) }
+        ensures err { OnErr result (self.new ≡ self.old) }
     {
         self.held.feed(piece)
     }

@@ -1,5 +1,5 @@
 //! Putting bytes and packets.
-ghost use Rattle.std.specs.Prelude.{◌≡◌, ◌≤◌, IsErrOf};
+ghost use Rattle.std.specs.Prelude.{◌≡◌, ◌≤◌, [], IsErrOf};
 ghost use Rattle.std.specs.List.{flat_map, AllByRecursion};
 ghost use Rattle.dp_outside.specs.Causes.{HasCause, Rose};
 ghost use Rattle.dp_outside.specs.Streams.{PutAppends};
@@ -30,10 +30,12 @@ impl From<AllocError> for Unsent {
     }
 }
 
-/// Puts the bytes, if there are any, or answers `Failed` after a front of them was taken.
+/// Puts the bytes, if there are any, or answers `Failed` after a front of them was taken. For no
+/// bytes the sink is not asked.
 pub fn put_unless_empty<E: Sink>(out: &mut E, bytes: &[u8]) -> Result<(), Failed>
     ensures taken { PutAppends (E.taken out.old) (E.taken out.new) result bytes.now }
     ensures cause { HasCause (E.faults out.old) (E.faults out.new) result }
+    ensures empty { bytes.now ≡ [] → out.new ≡ out.old }
 {
     if bytes.is_empty() {
         return Ok(());

@@ -4,6 +4,7 @@ use Rattle.std.specs.Prelude.{flat_map, slice_range, Option, Some, None}
 use Rattle.dp_wire.specs.declared.errors.WireError.{WireError}
 use Rattle.dp_wire.specs.declared.errors.WireError.TheVariants.{TooLong}
 use Rattle.dp_wire.specs.Frames.{Begins, IsPartial, BeginsNoFrame, IsCommand, IsPacketText, command_limit}
+use Rattle.dp_wire.specs.Frames.{packet_limit}
 use Rattle.dp_wire.specs.Places.{IsRefusedAt}
 use Rattle.dp_wire.specs.Received.{Received, IsCause, last_place}
 use Rattle.dp_lanes.specs.declared.lane.Lane.{Lane}
@@ -44,6 +45,11 @@ kind_of (lane.Down received) = Down
 abbrev pub received_in : Lane → Received
 received_in (lane.Up received) = received
 received_in (lane.Down received) = received
+
+-- the most bytes that are held where more of a frame has to come
+abbrev pub most_held : LaneKind → ℕ
+most_held Up = packet_limit + 9
+most_held Down = command_limit
 
 -- why no frame begins what is held; a command that is too long is the one reason of its lane
 abbrev pub Causes : LaneKind → Received → WireError → Type 0

@@ -1,11 +1,10 @@
 //! A lane of a session, which passes whole frames alone.
-ghost use Rattle.std.specs.Prelude.{◌≡◌, ◌↔◌, ◌+◌, ◌≤◌, [], ◌∷◌, ◌++◌, List, ℕ, Ok, None, min, length, IsErr, IfOk};
+ghost use Rattle.std.specs.Prelude.{◌≡◌, ◌↔◌, ◌+◌, ◌≤◌, [], ◌++◌, List, ℕ, Ok, None, min, length, IsErr, IfOk};
 ghost use Rattle.std.specs.Prelude.{IfErr, IfSome, OnOk, OnErr};
-ghost use Rattle.dp_wire.specs.Frames.{packet_limit};
 ghost use Rattle.dp_wire.specs.Received.{last_place};
 ghost use Rattle.dp_lanes.specs.Lanes.{frame, texts_in};
 ghost use Rattle.dp_lanes.specs.Places.{BeginsWith, IsPart, BeginsNone, Causes, IsFront, kind_of};
-ghost use Rattle.dp_lanes.specs.Places.{lane_piece_limit, received_in};
+ghost use Rattle.dp_lanes.specs.Places.{lane_piece_limit, most_held, received_in};
 
 use dp_value::Memory;
 use dp_wire::{Commands, Packets, WireError};
@@ -89,8 +88,8 @@ impl Lane {
         self.append(piece)
     }
 
-    /// The range of the first text among the bytes held, `None` where more has to come. A refusal where no frame begins
-    /// the bytes held. Takes no memory.
+    /// The range of the first text among the bytes held, `None` where more has to come: then at most 16,777,225 bytes
+    /// of packets are held, or 1,048,576 of commands. A refusal where no frame begins the bytes held. Takes no memory.
     pub fn next(&self) -> Result<Option<Range<usize>>, WireError>
         ensures whole { IfOk result (λ found. IfSome found (λ range.
             IsFront (kind_of self.now) (received_in self.now).held range.start range.end)) }
@@ -98,7 +97,7 @@ impl Lane {
         ensures refused { IsErr result ↔ BeginsNone (kind_of self.now) (received_in self.now).held }
         ensures cause { IfErr result (Causes (kind_of self.now) (received_in self.now)) }
         ensures none { result ≡ Ok None → texts_in (kind_of self.now) (received_in self.now).held ≡ [] }
-        ensures held { result ≡ Ok None → length (received_in self.now).held ≤ packet_limit + 9 }
+        ensures held { result ≡ Ok None → length (received_in self.now).held ≤ most_held (kind_of self.now) }
     {
         match self {
             Lane::Up(packets) => packets.next(),

@@ -1,6 +1,6 @@
 //! A dialer in memory, which gives the links that it was made with.
-ghost use Rattle.std.specs.Prelude.{◌≡◌, ◌↔◌, ◌⊎◌, ◌+◌, ◌≤◌, ◌∷◌, ◌++◌, [], ℕ, length, All, if◌then◌else◌, IfOk, OnErr};
-ghost use Rattle.std.specs.Prelude.{IsErr, IsTrue, Some, is_err, map};
+ghost use Rattle.std.specs.Prelude.{◌≡◌, ◌↔◌, ◌⊎◌, ◌+◌, ◌≤◌, ◌∷◌, ◌++◌, [], All, if◌then◌else◌, IfOk, OnErr};
+ghost use Rattle.std.specs.Prelude.{IsErr, IsOk, IsTrue, Some, is_err, map};
 ghost use Rattle.dp_outside.specs.Causes.{HasCause, Rose};
 ghost use Rattle.dp_outside.specs.Fakes.{after_call, is_due, one_more};
 ghost use Rattle.dp_outside.specs.Links.{CountsReturned, made};
@@ -78,7 +78,8 @@ impl ListDialer {
     /// A dialer that works by the first part; each twin gets the next. The sources and sinks in them are fresh.
     pub fn new(alloc: Global, parts: Vec<DialPart>) -> Result<Self, Memory>
         requires { AreFresh parts.items }
-        ensures { IfOk result (λ dialer. dialer ≡ first_dialer parts.items) }
+        ensures first { IfOk result (λ dialer. dialer ≡ first_dialer parts.items) }
+        ensures sure { IsOk result }
     {
         let mut parts = parts.into_iter();
         let part = next_part(alloc, &mut parts);

@@ -1,9 +1,9 @@
 //! A gate in memory, which gives the links that it was made with.
-ghost use Rattle.std.specs.Prelude.{◌≡◌, ◌↔◌, ◌⊎◌, ◌+◌, ◌<◌, ◌≤◌, ◌∷◌, ◌++◌, [], ℕ, length, All, if◌then◌else◌, IfOk};
-ghost use Rattle.std.specs.Prelude.{OnErr, IsErr, IsTrue, Some, is_err, map};
+ghost use Rattle.std.specs.Prelude.{◌≡◌, ◌↔◌, ◌⊎◌, ◌+◌, ◌<◌, ◌≤◌, ◌∷◌, ◌++◌, [], All, if◌then◌else◌, IfOk};
+ghost use Rattle.std.specs.Prelude.{OnErr, IsErr, IsOk, IsTrue, Some, is_err, map};
 ghost use Rattle.std.specs.Option.{option_to_list};
-ghost use Rattle.dp_outside.specs.Causes.{HasCause, Rose};
-ghost use Rattle.dp_outside.specs.Fakes.{after_call, is_due, one_more};
+ghost use Rattle.dp_outside.specs.Causes.{HasCause};
+ghost use Rattle.dp_outside.specs.Fakes.{after_call, is_due};
 ghost use Rattle.dp_outside.specs.Links.{CountsReturned, made};
 ghost use Rattle.std.specs.Vec.Iter.{into_iter_items};
 ghost use Rattle.dp_links.specs.Fakes.{
@@ -84,7 +84,8 @@ impl ListGate {
     /// fresh.
     pub fn new(alloc: Global, port: u16, parts: Vec<GatePart>) -> Result<Self, Memory>
         requires { AreFreshCalls parts.items }
-        ensures { IfOk result (λ gate. gate ≡ first_gate port parts.items) }
+        ensures first { IfOk result (λ gate. gate ≡ first_gate port parts.items) }
+        ensures sure { IsOk result }
     {
         let mut parts = parts.into_iter();
         let part = next_part(alloc, &mut parts);

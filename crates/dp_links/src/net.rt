@@ -1,6 +1,6 @@
 //! A net in memory, which gives the links and gates that it was made with.
 ghost use Rattle.std.specs.Prelude.{◌≡◌, ◌↔◌, ◌⊎◌, ◌+◌, ◌≤◌, ◌∷◌, ◌++◌, [], All, if◌then◌else◌, IfOk, OnErr, IsErr};
-ghost use Rattle.std.specs.Prelude.{IsTrue, Some, is_err, IfSome, IsNone};
+ghost use Rattle.std.specs.Prelude.{IsOk, IsTrue, Some, is_err, IfSome, IsNone};
 ghost use Rattle.std.specs.Vec.Iter.{into_iter_items};
 ghost use Rattle.dp_outside.specs.Causes.{HasCause};
 ghost use Rattle.dp_outside.specs.Fakes.{after_call, is_due};
@@ -77,7 +77,8 @@ impl ListNet {
     /// A net that works by the first part; each twin gets the next. The sources, sinks and gates in them are fresh.
     pub fn new(alloc: Global, parts: Vec<NetPart>) -> Result<Self, Memory>
         requires { All IsFreshPart parts.items }
-        ensures { IfOk result (λ net. net ≡ first_net parts.items) }
+        ensures first { IfOk result (λ net. net ≡ first_net parts.items) }
+        ensures sure { IsOk result }
     {
         let mut parts = parts.into_iter();
         let part = next_part(alloc, &mut parts);

@@ -1,6 +1,5 @@
 //! A shelf in memory.
-ghost use Rattle.std.specs.Prelude.{◌≡◌, ◌+◌, ◌≤◌, [], ◌∷◌, ◌++◌, length, Err, IfOk, IsErrOf, Some, is_err, IsTrue};
-ghost use Rattle.std.specs.Prelude.{◌↔◌};
+ghost use Rattle.std.specs.Prelude.{◌≡◌, ◌+◌, ◌≤◌, [], ◌∷◌, ◌++◌, length, Err, IfOk, IsErrOf, IsOk, Some, is_err};
 ghost use Rattle.dp_outside.specs.Causes.{Rose};
 ghost use Rattle.dp_outside.specs.Fakes.{after_call, first_plan, is_due};
 ghost use Rattle.dp_outside.specs.Files.{Fetches, Lacks, has_failed, contents_of};
@@ -43,6 +42,7 @@ impl MapShelf {
         ensures files { IfOk result (λ shelf. shelf.files ≡ contents_of files.items) }
         ensures fetched { IfOk result (λ shelf. shelf.fetched ≡ []) }
         ensures plan { IfOk result (λ shelf. shelf.plan ≡ first_plan fails.items) }
+        ensures sure { IsOk result }
     {
         Ok(MapShelf {
             files,

@@ -1,10 +1,9 @@
 //! A source and a sink in memory, which fail where they are told to.
-ghost use Rattle.std.specs.Prelude.{◌≡◌, ◌↔◌, ◌⊎◌, ◌+◌, ◌<◌, ◌≤◌, [], length, Some, IfOk, OnErr, IsErr, IsErrOf};
-ghost use Rattle.std.specs.Prelude.{IsTrue, is_err};
+ghost use Rattle.std.specs.Prelude.{◌≡◌, ◌↔◌, ◌⊎◌, ◌+◌, ◌<◌, ◌≤◌, [], length, Some, IfOk, OnErr, IsErr};
+ghost use Rattle.std.specs.Prelude.{IsOk, IsTrue, is_err};
 ghost use Rattle.std.specs.Io.KnownBytes.{ReadConsumes};
-ghost use Rattle.dp_outside.specs.Causes.{HasCause, Rose};
+ghost use Rattle.dp_outside.specs.Causes.{HasCause};
 ghost use Rattle.dp_outside.specs.Fakes.{after_call, after_piece, first_plan, is_due, piece_length, whole_tape};
-ghost use Rattle.dp_outside.specs.Files.{Fetches, Lacks};
 ghost use Rattle.dp_outside.specs.Streams.{PutAppends, TakeGives};
 
 use crate::plans::FailPlan;
@@ -38,6 +37,7 @@ impl ByteSource {
     pub fn new(bytes: Vec<u8>, cuts: Vec<usize>, fails: Vec<u64>) -> Result<Self, Memory>
         ensures tape { IfOk result (λ source. source.tape ≡ whole_tape bytes.items cuts.items) }
         ensures plan { IfOk result (λ source. source.plan ≡ first_plan fails.items) }
+        ensures sure { IsOk result }
     {
         Ok(ByteSource {
             pieces: Pieces::new(bytes, cuts),

@@ -32,7 +32,8 @@ impl Model for SureByteSource {
 impl SureByteSource {
     /// A source of these bytes in pieces of the sizes in `cuts`, as those of a `ByteSource`.
     pub fn new(bytes: Vec<u8>, cuts: Vec<usize>) -> Result<Self, Memory>
-        ensures { IfOk result (λ source. source ≡ whole_tape bytes.items cuts.items) }
+        ensures tape { IfOk result (λ source. source ≡ whole_tape bytes.items cuts.items) }
+        ensures sure { IsOk result }
     {
         Ok(SureByteSource {
             pieces: Pieces::new(bytes, cuts),
@@ -77,7 +78,9 @@ pub struct SureByteSink;
 
 impl SureByteSink {
     /// A sink that drops what it is given. Takes no memory: the `Result` is for the form of the others.
-    pub fn new() -> Result<Self, Memory> {
+    pub fn new() -> Result<Self, Memory>
+        ensures { IsOk result }
+    {
         Ok(SureByteSink)
     }
 }
@@ -120,6 +123,7 @@ impl SureMapShelf {
     pub fn new(files: Vec<(String, Vec<u8>)>) -> Result<Self, Memory>
         ensures files { IfOk result (λ shelf. shelf.files ≡ contents_of files.items) }
         ensures fetched { IfOk result (λ shelf. shelf.fetched ≡ []) }
+        ensures sure { IsOk result }
     {
         Ok(SureMapShelf {
             files,

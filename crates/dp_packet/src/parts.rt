@@ -1,6 +1,5 @@
 //! What elements are made of.
-ghost use Rattle.std.specs.Prelude.{◌≡◌, ◌++◌, ◌∷◌, [], decimal, IfOk, OnOk};
-ghost use Rattle.dp_markup.specs.declared.tree.Node.TheVariants as node;
+ghost use Rattle.std.specs.Prelude.{◌≡◌, ◌++◌, ◌∷◌, [], decimal, IfOk, OnOk, OnErr};
 ghost use Rattle.dp_packet.specs.Breakpoints.{given_number};
 ghost use Rattle.dp_packet.specs.Parts as spec;
 
@@ -10,15 +9,17 @@ use dp_value::{Bytes, Items};
 use itoa::Buffer;
 use std::alloc::Global;
 
-/// Puts an attribute behind the others. Its name and its value are copied.
+/// Puts an attribute behind the others. Its name and its value are copied. The only error is
+/// `Memory`, and then the attributes are what they were.
 pub fn put_attribute(
     alloc: Global,
     attributes: &mut Vec<(Bytes, Bytes)>,
     name: &[u8],
     value: &[u8],
 ) -> Result<(), Memory>
-    ensures { OnOk result (attributes.new.items ≡
+    ensures ok { OnOk result (attributes.new.items ≡
         attributes.old.items ++ (name.now, value.now) ∷ []) }
+    ensures err { OnErr result (attributes.new.items ≡ attributes.old.items) }
 {
     let pair = (
         Bytes::from_slice(alloc, name)?,

@@ -65,8 +65,9 @@ pub record IsUnlinked (address : Address) (ask : Invocation) (old new : Seen) : 
   pub out : IsUntouched (changed old.out new.out)
   pub apart : IsApart old new
 
-abbrev pub IsAlone : Failure → List ℕ → Address → Invocation → Seen → Seen → Type 0
-IsAlone why name address ask old new =
+-- which is reported as the network's failure, with no name
+abbrev pub FailsUnlinked : Failure → List ℕ → Address → Invocation → Seen → Seen → Type 0
+FailsUnlinked why name address ask old new =
     (why ≡ failure.Network) × (name ≡ []) × IsUnlinked address ask old new
 
 -- the session was served, and its end is this failure
@@ -98,5 +99,5 @@ IsStarved address key ask old new =
 abbrev pub EngineFails : Failure → List ℕ → Address → List ℕ → Invocation → Seen → Seen → Type 0
 EngineFails why name address key ask old new =
     ((why ≡ failure.Memory) × IsStarved address key ask old new)
-    ⊎ IsUnserved why name ask old new ⊎ IsAlone why name address ask old new
+    ⊎ IsUnserved why name ask old new ⊎ FailsUnlinked why name address ask old new
     ⊎ EndsSo why name address key ask old new

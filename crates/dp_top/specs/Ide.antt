@@ -12,7 +12,7 @@ use Rattle.dp_top.specs.declared.failures.Failure.{Failure}
 use Rattle.dp_top.specs.declared.failures.Failure.TheVariants as failure
 use Rattle.dp_top.specs.Engine.{IsApart, IsIdle}
 use Rattle.dp_top.specs.Links.{IsAccepted, IsUncalled}
-use Rattle.dp_top.specs.Lines.{IsNone, Unread, lines_limit}
+use Rattle.dp_top.specs.Lines.{IsBadFile, Unread, lines_limit}
 use Rattle.dp_top.specs.Seen.{Seen, changed}
 
 -- ---- the script
@@ -27,7 +27,7 @@ pub record IsScriptFile (files : Files) (name : List ℕ) (instructions : List I
 
 -- the file is no script, from this line on
 abbrev pub IsNoScript : Files → List ℕ → ℕ → Type 0
-IsNoScript files name line = IsNone IsFirstBad files name line
+IsNoScript files name line = IsBadFile IsFirstBad files name line
 
 -- ---- what it does
 
@@ -81,8 +81,9 @@ IsStarved port script old new =
     IsIdle old new ⊎ IsUnmet port script old new
     ⊎ ((end : Result (Unit {0}) IdeError) × IsPlayed end port script old new)
 
-abbrev pub IsAlone : Failure → List ℕ → ℕ → List ℕ → Seen → Seen → Type 0
-IsAlone why name port script old new =
+-- no link came, which is reported as the network's failure, with no name
+abbrev pub FailsUnmet : Failure → List ℕ → ℕ → List ℕ → Seen → Seen → Type 0
+FailsUnmet why name port script old new =
     (why ≡ failure.Network) × (name ≡ []) × IsUnmet port script old new
 
 -- why it failed
@@ -91,4 +92,4 @@ IdeFails why name port script old new =
     ((why ≡ failure.Memory) × IsStarved port script old new)
     ⊎ (Unread IsFirstBad why name script old.shelf.files old.shelf.faults new.shelf.faults
     × IsIdle old new)
-    ⊎ IsAlone why name port script old new ⊎ EndsSo why name port script old new
+    ⊎ FailsUnmet why name port script old new ⊎ EndsSo why name port script old new

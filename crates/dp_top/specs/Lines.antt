@@ -17,11 +17,12 @@ IsBadAt first content line =
     ⊎ ((length content ≤ lines_limit) × first content line)
 
 -- what the file has is none
-pub record IsNone (first : List ℕ → ℕ → Type 0) (files : Files) (name : List ℕ) (line : ℕ) : Type 0
-  where
-    pub content : List ℕ
-    pub fetched : Fetches files name lines_limit content
-    pub bad : IsBadAt first content line
+pub record IsBadFile
+    (first : List ℕ → ℕ → Type 0) (files : Files) (name : List ℕ) (line : ℕ)
+    : Type 0 where
+  pub content : List ℕ
+  pub fetched : Fetches files name lines_limit content
+  pub bad : IsBadAt first content line
 
 -- there is none: the shelf failed, lacks it, or what it has is none
 abbrev pub Unread : (List ℕ → ℕ → Type 0)
@@ -29,5 +30,5 @@ abbrev pub Unread : (List ℕ → ℕ → Type 0)
 Unread first failure.ShelfFailed name file files before after = (name ≡ file) × Rose before after
 Unread first failure.NoFile name file files before after = (name ≡ file) × Lacks files file
 Unread first (failure.Script line) name file files before after =
-    (name ≡ []) × IsNone first files file line
+    (name ≡ []) × IsBadFile first files file line
 Unread first other name file files before after = ⊥

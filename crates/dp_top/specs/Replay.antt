@@ -14,7 +14,7 @@ use Rattle.dp_world.specs.Replays.{Replays}
 use Rattle.dp_top.specs.declared.failures.Failure.{Failure}
 use Rattle.dp_top.specs.declared.failures.Failure.TheVariants as failure
 use Rattle.dp_words.specs.CommandLine.{Invocation}
-use Rattle.dp_top.specs.Lines.{IsNone, Unread, lines_limit}
+use Rattle.dp_top.specs.Lines.{IsBadFile, Unread, lines_limit}
 use Rattle.dp_top.specs.Runs.{IsProgramReported}
 
 -- ---- the list of events
@@ -28,7 +28,7 @@ pub record IsListFile (files : Files) (name : List ℕ) (events : List Event) : 
 
 -- the file is no list, from this line on
 abbrev pub IsNoList : Files → List ℕ → ℕ → Type 0
-IsNoList files name line = IsNone IsFirstBad files name line
+IsNoList files name line = IsBadFile IsFirstBad files name line
 
 -- ---- what it does
 

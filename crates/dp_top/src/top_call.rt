@@ -1,5 +1,5 @@
 //! The top call.
-ghost use Rattle.std.specs.Prelude.{false, ◌≡◌, ◌↔◌, ◌⊎◌, ◌<◌, ◌≤◌, ℕ, List, IsSome, Some, Result, Ok, Err, codes};
+ghost use Rattle.std.specs.Prelude.{false, ◌≡◌, ◌⊎◌, ◌<◌, ◌≤◌, ℕ, List, IsSome, Some, Result, Ok, Err, codes};
 ghost use Rattle.std.specs.Prelude.{map, string_bytes};
 ghost use Rattle.dp_outside.specs.Causes.{Rose};
 ghost use Rattle.dp_outside.specs.Changes.{change, IsUntouched};
@@ -43,7 +43,7 @@ use std::sync::Wait;
 /// | 201 | a file is too long or no program | `bad source NAME REASON NUMBER` |
 /// | 202 | the shelf failed, or lacks a file | `shelf failed NAME`, `no file NAME` |
 /// | 203 | an output failed | `output failed` |
-/// | 204 | a line is none of a script, or of a list of events; N is the first, or 0 where the file is too long | `bad script line N` |
+/// | 204 | a line is not in the grammar of scripts, or of lists of events; N is the first, or 0 where the file is too long | `bad script line N` |
 /// | 205 | line N of the script wants W, and F is found, or nothing | `differs line N wanted W found F` |
 /// | 206 | the input of `show` ended inside a frame, or the link of `ide` before a packet that was awaited | `peer ended` |
 /// | 207 | bytes stand in no command's or packet's place, a text is no packet, or too many came | `bad packet offset N` |
@@ -178,6 +178,7 @@ pub fn top<R: Wait + Sync, H: Shelf, S: Source, K: Sink, E: Sink, N: Net, P: Spa
     ensures net_later { N.faults net.old ≤ N.faults net.new }
     ensures returned_later { N.returned net.old ≤ N.returned net.new }
     ensures spawner { P.faults spawner.new ≡ P.faults spawner.old }
+    ensures spawner_starts { P.starts spawner.new ≡ P.starts spawner.old }
     ensures shelf_later { H.faults shelf.old ≤ H.faults shelf.new }
     ensures input_later { S.faults input.old ≤ S.faults input.new }
     ensures out_later { K.faults out.old ≤ K.faults out.new }

@@ -1,7 +1,7 @@
-use Rattle.std.proofs.Common.{◌≡◌, ◌↔◌, ℕ, IfOk, IsErr, sym}
+use Rattle.std.proofs.Common.{◌≡◌, ◌≤◌, ◌↔◌, None, Ok, IfOk, IsErr, length, sym}
 use Rattle.std.specs.Option.{IfSome}
 use Rattle.dp_lanes.specs.declared.lane.Lane.TheVariants as lane
-use Rattle.dp_lanes.specs.Places.{BeginsNone, IsFront}
+use Rattle.dp_lanes.specs.Places.{BeginsNone, IsFront, most_held}
 use Rattle.dp_lanes.proofs.LaneLaws.{at_lane, up_front, down_front}
 use Rattle.dp_lanes.proofs.lane.Lane.next.Goals as goal
 
@@ -34,3 +34,15 @@ returns-in-Down-clause-refused c =
     let e : c.args.self.now ≡ lane.Down c.in-Down.commands = cc in
     at_lane (λ k r. IsErr c.next-in-Down.result ↔ BeginsNone k r.held) (lane.Down c.in-Down.commands) _
     (sym e) c.next-in-Down.ensures.refused
+
+pub returns-in-Up-clause-held : goal.returns-in-Up-clause-held
+returns-in-Up-clause-held c =
+    let e : c.args.self.now ≡ lane.Up c.in-Up.packets = cc in
+    at_lane (λ k r. c.next.result ≡ Ok None → length r.held ≤ most_held k) (lane.Up c.in-Up.packets) _
+    (sym e) c.next.ensures.held
+
+pub returns-in-Down-clause-held : goal.returns-in-Down-clause-held
+returns-in-Down-clause-held c =
+    let e : c.args.self.now ≡ lane.Down c.in-Down.commands = cc in
+    at_lane (λ k r. c.next-in-Down.result ≡ Ok None → length r.held ≤ most_held k) (lane.Down c.in-Down.commands) _
+    (sym e) c.next-in-Down.ensures.held
