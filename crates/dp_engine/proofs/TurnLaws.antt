@@ -65,7 +65,7 @@ use Rattle.dp_engine.specs.States.{allows}
 use Rattle.dp_engine.specs.inner.KeptWrites.{IsKeptWrite}
 use Rattle.dp_engine.specs.inner.Sizes.{Fits}
 use Rattle.dp_engine.specs.inner.Position.{IsAt, IsDeep, end_of, known, phase_of}
-use Rattle.dp_engine.specs.inner.Turns.{IsTurn, ReadsCommand, ReadsCommandIn, Responds, answered, answered_by}
+use Rattle.dp_engine.specs.inner.Turns.{IsTurn, ReadsCommand, Responds, answered, answered_by}
 use Rattle.dp_engine.proofs.RefusalLaws.{first_for, writes_at_break}
 
 -- ---- what a line asks for
@@ -410,6 +410,15 @@ module _ (bundle : Bundle) (bound : ℕ) (writes : List NumberedWrite) (moment :
     by Starting n h = λ e. absurd cc
     by Break n h = (h.0, λ e. absurd cc)
     by (Stopping end) n h = absurd (n refl)
+
+  -- nor of one that has failed and was left as it was
+  pub still_kept : (failed : Bool) → Kept failed → IsAt true position bundle bound writes moment machine
+  still_kept failed h = by position h where
+    by : (s : Position) → IsAt failed s bundle bound writes moment machine
+        → IsAt true s bundle bound writes moment machine
+    by Starting h = λ e. absurd cc
+    by Break h = (h.0, λ e. absurd cc)
+    by (Stopping end) h = h
 
   -- ---- the program goes on
 

@@ -1,6 +1,5 @@
 //! Serving one session over a link.
 ghost use Rattle.std.specs.Prelude.{◌≡◌, ◌≤◌, ℕ, List, None, Some};
-ghost use Rattle.std.specs.Io.KnownBytes.{Appends};
 ghost use Rattle.dp_outside.specs.Changes.{change};
 ghost use Rattle.dp_wire.specs.Frames.{IsPacketText};
 ghost use Rattle.dp_engine.specs.inner.RestOfRun.{CanRunOn, Closes, ClosesCut, RanOn};
@@ -31,11 +30,11 @@ pub enum ServeEnd {
     ReadFault,
     /// The link's sink failed.
     WriteFault,
-    /// No command begins at this offset from the first byte read.
+    /// No command begins at this offset from the first byte read: more than 1,048,576 bytes came without a NUL.
     BadCommandFrame { offset: u64 },
     /// The program's own output failed.
     OutFault,
-    /// The most bytes of a session were read.
+    /// The most bytes of a session were read: 4,294,967,295.
     ByteLimit,
     /// Out of memory.
     Memory,
@@ -169,8 +168,9 @@ fn close_cut<E: Sink, L: Ledger>(
 
 /// Serves a session over a link: sends its first packet and answers each command that comes, up to an end.
 ///
-/// The program's own output goes to `out`. If the link ends or fails first, the program runs on to its end, unless a
-/// command has killed it. It waits in the calls of the link alone.
+/// `session` and `init` are what `Session::begin` answered together, and nothing was answered since; of another `init`
+/// nothing is said but that no count falls. The program's own output goes to `out`. If the link ends or fails first,
+/// the program runs on to its end, unless a command has killed it. It waits in the calls of the link alone.
 ///
 /// The steps that it takes are counted; no clause says how many these are.
 pub fn serve<S: Source, K: Sink, E: Sink, L: Ledger>(

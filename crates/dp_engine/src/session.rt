@@ -1,5 +1,5 @@
 //! One session of the engine with an IDE.
-ghost use Rattle.std.specs.Prelude.{◌≡◌, ◌≢◌, ◌+◌, ◌≤◌, ◌∷◌, ◌++◌, [], drop, length, map, IfOk, OnOk};
+ghost use Rattle.std.specs.Prelude.{◌≡◌, ◌≢◌, ◌+◌, ◌≤◌, [], drop, length, map, IfOk, OnOk};
 ghost use Rattle.std.specs.List.{AllByRecursion};
 ghost use Rattle.dp_wire.specs.Frames.{IsCommand, IsPacketText};
 ghost use Rattle.dp_outside.specs.Names.{key_limit};
@@ -21,7 +21,7 @@ use dp_packet::{Init, Packet, file_uri, text_of};
 use dp_state::{Outcome, State};
 use dp_step::{Machine, Steps};
 use dp_tree::Bundle;
-use dp_value::{Bytes, Items, Memory};
+use dp_value::{Bytes, Memory};
 use std::alloc::Global;
 use std::marker::Model;
 use std::sync::ledger::Ledger;
@@ -55,7 +55,7 @@ pub struct Session<'a> {
     pub(crate) stdout: StreamMode,
     /// The program, which stands at the moment or has ended.
     pub(crate) machine: Machine<'a>,
-    /// Whether memory ran out while the program went on: then the machine stands for nothing any more.
+    /// Whether memory ran out: then the session answers so for good, and its machine may stand for nothing any more.
     pub(crate) failed: bool,
     pub(crate) breaks: Breaks,
     pub(crate) alloc: Global,
@@ -167,11 +167,37 @@ impl<'a> Session<'a> {
         Ok((session, init))
     }
 
-    /// Answers one whole command, without its NUL. Once memory ran out it has failed for good: nothing is said of it
-    /// then.
+    /// Answers one whole command, without its NUL. Once memory ran out the session has failed for good, and each later
+    /// call answers so.
     ///
-    /// A command that goes on counts a step for each moment that comes on the way; no other command counts any.
+    /// A session that has ended is not asked again: that it has ended is the caller's to keep. A command that goes on
+    /// counts a step for each moment that comes on the way; no other command counts any.
     pub fn answer<L: Ledger>(&mut self, line: &[u8], steps: &mut Steps<L>) -> Result<Answer, Memory>
+        requires { IsCommand line.now }
+        ensures ok { IfOk result (λ answer. reply_of answer self.new ≡ spec.answer self.old line.now) }
+        ensures are_texts { IfOk result (λ answer. AllByRecursion IsPacketText answer.packets) }
+        ensures refused { IfOk result (λ answer.
+            IsAnsweredBy (refusal self.old line.now) self.old line.now (reply_of answer self.new)) }
+        ensures steps { IfOk result (λ answer. steps.new ≡ steps.old + steps_between self.old self.new) }
+    {
+        match self.answer_line(line, steps) {
+            Ok(answer) => Ok(answer),
+            Err(_) => Err(self.fail()),
+        }
+    }
+
+    /// From now on it answers that it is out of memory.
+    fn fail(&mut self) -> Memory {
+        self.failed = true;
+        Memory
+    }
+
+    /// The same; once memory ran out it is not noted yet.
+    fn answer_line<L: Ledger>(
+        &mut self,
+        line: &[u8],
+        steps: &mut Steps<L>,
+    ) -> Result<Answer, Memory>
         requires { IsCommand line.now }
         ensures ok { IfOk result (λ answer. reply_of answer self.new ≡ spec.answer self.old line.now) }
         ensures are_texts { IfOk result (λ answer. AllByRecursion IsPacketText answer.packets) }
@@ -240,7 +266,9 @@ impl<'a> Session<'a> {
         }
     }
 
-    /// Runs the program on to its end, if it has not ended, and answers the rest of its output and how it ended.
+    /// Runs the program on to its end, if it has not ended, and answers the rest of its output and how it ended. Once
+    /// memory ran out in the session it answers so. A program that a command killed would be run on too: whoever serves
+    /// such a session drops it instead.
     ///
     /// A step is counted for each moment that comes on the way.
     pub fn finish<L: Ledger>(mut self, steps: &mut Steps<L>) -> Result<(Bytes, Outcome), Memory>
@@ -262,7 +290,12 @@ impl<'a> Session<'a> {
         match self.position {
             Position::Starting => self.run_rest(steps),
             Position::Break => self.run_rest(steps),
-            Position::Stopping(outcome) => Ok((Bytes::of(Vec::new(self.alloc)), outcome)),
+            Position::Stopping(outcome) => {
+                if self.failed {
+                    return Err(Memory);
+                }
+                Ok((Bytes::of(Vec::new(self.alloc)), outcome))
+            }
         }
     }
 

@@ -30,10 +30,12 @@ pub enum ProxyError {
     /// An engine came without a key. Nothing has changed.
     #[error("an engine without a key")]
     BadInit,
-    /// At this offset of what came on the link no frame begins. The link is closed.
+    /// No frame begins what is left of a stream of the link, of the commands or, where these are sound, of the packets.
+    /// The offset counts from the first byte of that stream to the first with which no frame goes on, or where a length
+    /// passes the limit, to its frame. The link is closed.
     #[error("bad frame at offset {offset}")]
     BadFrame { offset: u64 },
-    /// Out of memory. The proxy has failed for good.
+    /// Out of memory. The proxy has failed for good: it answers so from then on.
     #[error("out of memory")]
     Memory,
 }

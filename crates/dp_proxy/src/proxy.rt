@@ -1,5 +1,6 @@
 //! The core: what each event leads to, over all links.
-ghost use Rattle.std.specs.Prelude.{[], List};
+ghost use Rattle.std.specs.Prelude.{◌≡◌, [], List};
+ghost use Rattle.dp_proxy.specs.declared.errors.ProxyError.TheVariants as any_error;
 ghost use Rattle.dp_proxy.specs.declared.events.Event.{Event as Came};
 ghost use Rattle.dp_proxy.specs.Pasts.{past_of};
 ghost use Rattle.dp_proxy.specs.Invariant.{Represents, RepresentsAfter};
@@ -20,6 +21,8 @@ pub struct Proxy {
     alloc: Global,
     registry: Registry,
     links: Links,
+    /// Whether memory ran out.
+    failed: bool,
 }
 
 impl Model for Proxy {
@@ -41,6 +44,7 @@ impl Proxy {
             alloc,
             registry: Registry::new(alloc),
             links: Links::new(alloc),
+            failed: false,
         }
     }
 
@@ -48,8 +52,33 @@ impl Proxy {
     ///
     /// `BadInit` exactly for an engine that comes on a link that was not made, with what is no key; nothing changes.
     /// `BadFrame` exactly where a lane is bad and the event completes no frame; it closes the link. Once memory ran out
-    /// the proxy has failed for good.
+    /// the proxy has failed for good, and each later event is answered so.
     pub fn step(&mut self, event: &Event) -> Result<Effect, ProxyError>
+        requires host { HasHost event.now.act }
+        ensures answers { (events : List Came) → Represents self.old events
+            → Answers (past_of events) event.now.link event.now.act result }
+        ensures stands { (events : List Came) → Represents self.old events
+            → RepresentsAfter self.new events event.now result }
+    {
+        if self.failed {
+            return Err(ProxyError::Memory);
+        }
+        match self.lead(event) {
+            Err(ProxyError::Memory) => Err(self.fail()),
+            answer => answer,
+        }
+    }
+
+    /// From now on it answers that it is out of memory.
+    fn fail(&mut self) -> ProxyError
+        ensures { result ≡ any_error.Memory }
+    {
+        self.failed = true;
+        ProxyError::Memory
+    }
+
+    /// The same as a step; once memory ran out it is not noted yet.
+    fn lead(&mut self, event: &Event) -> Result<Effect, ProxyError>
         requires host { HasHost event.now.act }
         ensures answers { (events : List Came) → Represents self.old events
             → Answers (past_of events) event.now.link event.now.act result }

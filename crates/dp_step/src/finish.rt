@@ -19,12 +19,13 @@ use std::sync::ledger::Ledger;
 use std::{mem, slice};
 
 impl<'p> Machine<'p> {
-    ghost use Rattle.std.specs.Prelude.{◌≡◌, ◌+◌, ℕ, List, length, true, IfOk};
+    ghost use Rattle.std.specs.Prelude.{◌≡◌, ◌+◌, ℕ, List, length, true, IfOk, OnErr, OnOk};
     ghost use Rattle.dp_depth.specs.Depth.{is_named};
     ghost use Rattle.dp_tree.specs.declared.bundle.Bundle.{Bundle as SomeBundle};
     ghost use Rattle.dp_meaning.specs.declared.writes.NumberedWrite.{NumberedWrite};
     ghost use Rattle.dp_meaning.specs.Trace.{outcome, program_trace};
-    ghost use Rattle.dp_step.specs.Stands.{StandsFor, rest_of};
+    ghost use Rattle.dp_state.specs.declared.moments.Outcome.{Outcome as SomeOutcome};
+    ghost use Rattle.dp_step.specs.Stands.{HasEnded, HasFailed, StandsFor, rest_of};
     ghost use Rattle.dp_step.specs.declared.work.Hand.TheVariants as any_hand;
     ghost use Rattle.dp_actions.specs.declared.signal.Signal.{Signal as AnySignal};
     ghost use Rattle.dp_actions.specs.Setting.{Part};
@@ -35,8 +36,8 @@ impl<'p> Machine<'p> {
 
     /// Goes on to the end of the program, and answers its outcome; each moment that is left takes one step. Nothing
     /// stops it, so a statement, or the turns that are left of a loop, go as fast as the evaluator, where the functions
-    /// that they may call do not call deep; all else goes by small steps, whose pending work lies on the heap. After
-    /// out of memory nothing is said of the machine.
+    /// that they may call do not call deep; all else goes by small steps, whose pending work lies on the heap. Once the
+    /// program has ended it answers the same end; once memory has run out it answers so for good.
     pub fn run_out<L: Ledger>(&mut self, steps: &mut Steps<L>) -> Result<Outcome, Memory>
         ensures end { (bundle : SomeBundle) (bound : ℕ) (writes : List NumberedWrite) (n : ℕ)
             → StandsFor bundle bound writes n self.old
@@ -45,17 +46,39 @@ impl<'p> Machine<'p> {
         ensures counted { (bundle : SomeBundle) (bound : ℕ) (writes : List NumberedWrite) (n : ℕ)
             → StandsFor bundle bound writes n self.old
             → IfOk result (λ end. steps.new + n ≡ steps.old + length (program_trace bundle bound writes).moments) }
+        ensures ends { IfOk result (λ end. HasEnded end self.new) }
+        ensures stays { (o : SomeOutcome) → HasEnded o self.old
+            → IfOk result (λ end. (end ≡ o) × (self.new.state ≡ self.old.state)) }
+        ensures leaves { OnErr result (HasFailed self.new) }
+        ensures fails { HasFailed self.old → OnOk result ⊥ }
     {
-        let before = self.state.moments;
+        if self.has_failed() {
+            Err(Memory)
+        } else {
+            let before = self.state.moments;
+            match self.end() {
+                Ok(outcome) => {
+                    steps.tick_all(risen(before, self.state.moments));
+                    Ok(outcome)
+                }
+                Err(_) => Err(self.fail()),
+            }
+        }
+    }
+
+    /// The same without the steps, where memory has not run out.
+    fn end(&mut self) -> Result<Outcome, Memory>
+        ensures runs { IfOk result (λ end. RunsOut self.old (rest_of self.old self.old.state) end self.new) }
+        ensures ends { IfOk result (λ end. HasEnded end self.new) }
+    {
         let deep = DeepNames::of(self.alloc, self.bundle)?;
-        let outcome = self.finish(&deep)?;
-        steps.tick_all(risen(before, self.state.moments));
-        Ok(outcome)
+        self.finish(&deep)
     }
 
     /// Leaps until the program has ended.
     fn finish(&mut self, deep: &DeepNames<'p>) -> Result<Outcome, Memory>
-        ensures { IfOk result (λ end. RunsOut self.old (rest_of self.old self.old.state) end self.new) }
+        ensures runs { IfOk result (λ end. RunsOut self.old (rest_of self.old self.old.state) end self.new) }
+        ensures ends { IfOk result (λ end. HasEnded end self.new) }
     {
         for _ in 0..u64::MAX {
             match self.leap(deep)? {

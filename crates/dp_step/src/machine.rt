@@ -103,7 +103,7 @@ impl<'p> Machine<'p> {
     }
 
     /// Whether memory has run out.
-    fn has_failed(&self) -> bool
+    pub(crate) fn has_failed(&self) -> bool
         ensures failed { result ≡ true → HasFailed self.now }
         ensures not_failed { result ≡ false → HasFailed self.now → ⊥ }
     {

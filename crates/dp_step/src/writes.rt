@@ -16,20 +16,36 @@ use std::alloc::Global;
 use std::mem;
 
 impl Machine<'_> {
-    ghost use Rattle.std.specs.Prelude.{◌≡◌, ℕ, ◌++◌, List, OnOk};
+    ghost use Rattle.std.specs.Prelude.{◌≡◌, ℕ, ◌++◌, List, OnOk, OnErr};
     ghost use Rattle.std.specs.Borrow.{sem};
     ghost use Rattle.dp_tree.specs.declared.bundle.Bundle.{Bundle as SomeBundle};
     ghost use Rattle.dp_meaning.specs.declared.writes.NumberedWrite.{NumberedWrite};
     ghost use Rattle.dp_meaning.specs.Writes.{of_number};
     ghost use Rattle.dp_step.specs.Loans.{LendsState};
-    ghost use Rattle.dp_step.specs.Stands.{StandsFor};
+    ghost use Rattle.dp_step.specs.Stands.{HasFailed, StandsFor};
 
     /// Makes those of the writes that have the number of the moment, in their order; before the first moment there is
-    /// none to make. Once memory ran out nothing is said of the machine.
+    /// none to make. Once memory has run out it answers so for good.
     pub fn write_all(&mut self, writes: &[NumberedWrite]) -> Result<(), Memory>
-        ensures { (bundle : SomeBundle) (bound : ℕ) (made : List NumberedWrite) (n : ℕ)
+        ensures stands { (bundle : SomeBundle) (bound : ℕ) (made : List NumberedWrite) (n : ℕ)
             → StandsFor bundle bound made n self.old
             → OnOk result (StandsFor bundle bound (made ++ of_number n writes.now) n self.new) }
+        ensures leaves { OnErr result (HasFailed self.new) }
+        ensures fails { HasFailed self.old → OnOk result ⊥ }
+    {
+        if self.has_failed() {
+            Err(Memory)
+        } else {
+            self.write_each(writes)
+        }
+    }
+
+    /// The same where memory has not run out.
+    fn write_each(&mut self, writes: &[NumberedWrite]) -> Result<(), Memory>
+        ensures stands { (bundle : SomeBundle) (bound : ℕ) (made : List NumberedWrite) (n : ℕ)
+            → StandsFor bundle bound made n self.old
+            → OnOk result (StandsFor bundle bound (made ++ of_number n writes.now) n self.new) }
+        ensures leaves { OnErr result (HasFailed self.new) }
     {
         let number = self.state.moments;
         if number == 0 {
@@ -69,7 +85,8 @@ impl Machine<'_> {
     ghost use Rattle.dp_step.specs.declared.errors.StepError.TheVariants as any_error;
 
     /// Gives a place a value at the moment. The path begins at a variable of the frame at the level, where 0 is the top
-    /// frame, for the context 0, and at a global variable for the context 1. A refusal changes nothing.
+    /// frame, for the context 0, and at a global variable for the context 1. A refusal changes nothing. Once memory has
+    /// run out it answers so for good.
     pub fn write(
         &mut self,
         level: u32,
@@ -82,8 +99,14 @@ impl Machine<'_> {
             → StandsFor bundle bound writes (suc n) self.old
             → StandsFor bundle bound (writes
             ++ record { moment = suc n; write = any_write.Place level context path.now value } ∷ []) (suc n) self.new) }
+        ensures fails { HasFailed self.old → OnOk result ⊥ }
     {
-        self.write_place(level, context, path, value)
+        if self.has_failed() {
+            drop(value);
+            Err(StepError::Memory)
+        } else {
+            self.write_place(level, context, path, value)
+        }
     }
 
     /// The same, without what the machine stands for then.
@@ -142,7 +165,7 @@ impl Machine<'_> {
     }
 
     /// Evaluates an expression in the top frame at the moment, and keeps what it leaves. It has at most 10,000 moments
-    /// of its own, which are counted apart. A refusal changes nothing.
+    /// of its own, which are counted apart. A refusal changes nothing. Once memory has run out it answers so for good.
     pub fn evaluate(&mut self, e: &Expression) -> Result<Value, StepError>
         ensures evaluated { Evaluates (evaluated (evaluation_setting self.old.bundle.now) e.now self.old.state) result
             self.old self.new }
@@ -150,8 +173,13 @@ impl Machine<'_> {
             → StandsFor bundle bound writes (suc n) self.old
             → StandsFor bundle bound (writes ++ record { moment = suc n; write = any_write.Evaluate e.now } ∷ [])
             (suc n) self.new) }
+        ensures fails { HasFailed self.old → OnOk result ⊥ }
     {
-        self.value_of(e)
+        if self.has_failed() {
+            Err(StepError::Memory)
+        } else {
+            self.value_of(e)
+        }
     }
 
     /// The same, without what the machine stands for then.

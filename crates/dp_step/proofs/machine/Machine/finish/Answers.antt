@@ -1,5 +1,6 @@
 use Rattle.std.proofs.Common.{refl, ◌∙◌}
 use Rattle.dp_step.specs.Stands.{rest_of}
+use Rattle.dp_step.proofs.Ends.{over-left}
 use Rattle.dp_step.proofs.LeapLaws.{leap-on, leap-out}
 use Rattle.dp_step.proofs.machine.Machine.finish.Goals as goal
 
@@ -15,7 +16,10 @@ loop-preserved c =
       same_bound = leaps.same_bound ∙ c.loop.invariant.same_bound;
     }
 
-pub returns-in-Some : goal.returns-in-Some
-returns-in-Some c =
+pub returns-in-Some-clause-runs : goal.returns-in-Some-clause-runs
+returns-in-Some-clause-runs c =
     leap-out c.args.self.now c.loop.self c.leap.new.self (rest_of c.args.self.now c.args.self.now.state)
     c.loop.invariant.same c.loop.invariant.same_bound c.in-Some.outcome (rw c.in-Some.is at c.in_ok-leap.ensures)
+
+pub returns-in-Some-clause-ends : goal.returns-in-Some-clause-ends
+returns-in-Some-clause-ends c = over-left _ _ c.put_hand.ensures

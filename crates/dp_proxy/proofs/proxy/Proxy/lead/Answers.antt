@@ -1,8 +1,8 @@
-use Rattle.std.proofs.Common.{◌≡◌, ℕ, List, sym, subst}
+use Rattle.std.proofs.Common.{ℕ, List, sym, subst}
 use Rattle.dp_proxy.specs.declared.kept.Kept.{Kept}
 use Rattle.dp_proxy.specs.Invariant.{Keeps, Represents, AreSound}
 use Rattle.dp_proxy.proofs.StepLaws.{sound_taken, sound_put, represents_put}
-use Rattle.dp_proxy.proofs.proxy.Proxy.step.Goals as goal
+use Rattle.dp_proxy.proofs.proxy.Proxy.lead.Goals as goal
 
 pub invariant_of-self : goal.invariant_of-self
 invariant_of-self c =
