@@ -21,7 +21,7 @@ const STACK_SIZE: usize = 8 << 30;
 /// takes less than 2 KiB of the stack for a level.
 const DEEP_SIZE: usize = 2 << 30;
 
-/// How many smaller sizes are tried, down to 64 MiB: each is a thirty-second less than the one before.
+/// How many smaller sizes are tried, down to some 66 MiB: each is a thirty-second less than the one before.
 const SMALLER_SIZES: u32 = 152;
 
 /// The words of the command line, without the program's name. Where the system does not give them as text there are
@@ -79,8 +79,8 @@ fn call<
 
 /// The answer of the top call, in a thread of its own with a large stack. Where the system does not give `STACK_SIZE`,
 /// the top call gets seven eighths of the largest that it gives, and at most `DEEP_SIZE`: what is left for values is
-/// then so little that memory runs out before a value is too deep for the stack. Where it does not give 64 MiB, the
-/// program is out of memory.
+/// then so little that memory runs out before a value is too deep for the stack. Where it does not give the last of
+/// these sizes, the program is out of memory.
 fn main(rt: HostRuntime) -> ExitCode {
     let status = thread::scope(thread::scope_env(), &rt, |scope| {
         let whole = Builder::new()

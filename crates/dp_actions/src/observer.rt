@@ -19,7 +19,8 @@ pub(crate) struct Observer<'a> {
 }
 
 /// The value of an expression without calls, assignments, `++`, `--` and includes in the top frame of a state, or the
-/// fault that ends it. The state is lent, and nothing of it is copied but the text or the entry that is the value.
+/// fault that ends it. The state is lent; of it only the entries that are read and the texts that are joined are
+/// copied.
 pub fn observe(alloc: Global, state: &State, e: &Expression) -> Result<Shared, Halt>
     requires { is_pure e.now ≡ true }
     ensures { Observed (evaluation e.now) result state.now }

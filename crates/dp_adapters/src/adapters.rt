@@ -1,5 +1,5 @@
 //! Readers, writers and files as objects of the outside. They tell nothing.
-ghost use Rattle.std.specs.Prelude.{◌≡◌, ◌+◌, ◌≤◌, length, IfOk, IsErrOf, None, Some};
+ghost use Rattle.std.specs.Prelude.{◌≡◌, ◌+◌, ◌≤◌, length, IfOk, IsErrOf, None};
 ghost use Rattle.std.specs.Io.KnownBytes.{ReadConsumes};
 ghost use Rattle.dp_outside.specs.Causes.{HasCause, Rose};
 ghost use Rattle.dp_outside.specs.Streams.{PutAppends};
@@ -11,7 +11,8 @@ use std::fs;
 use std::fs::Files;
 use std::io::{ErrorKind, Read, Write};
 
-/// A source over a reader. It tells no bytes, and its count rises at each error of the reader.
+/// A source over a reader. It tells no bytes, and its count rises where a take fails: at each error of the reader but
+/// an interruption, after which it reads again.
 #[derive(Drop)]
 pub struct ReaderSource<R> {
     pub inner: R,
@@ -56,8 +57,9 @@ impl<R: Read> Source for ReaderSource<R> {
     }
 }
 
-/// A sink over a writer, which it flushes after each put, so that a peer or a terminal sees each packet. It tells
-/// no bytes, and its count rises at each error of the writer.
+/// A sink over a writer, which it flushes after each put, so that a peer or a terminal sees each packet. It tells no
+/// bytes, and its count rises where a put fails: at each error of the writer but an interruption, after which it writes
+/// again.
 ///
 /// It is for a stream that nobody waits on at its other end, and is no link: its `finish` does nothing, so the stream
 /// ends when its owner drops it. A link's sink ends the link in both directions.
@@ -104,8 +106,8 @@ impl<W: Write> Sink for WriterSink<W> {
     {}
 }
 
-/// A shelf over files, whose names are paths. It tells no files, and its count rises at each error but the one that
-/// no file has the name.
+/// A shelf over files, whose names are paths. It tells no files, and its count rises at each error but that no file has
+/// the name and that there is no memory.
 #[derive(Drop)]
 pub struct FileShelf<F> {
     pub files: F,

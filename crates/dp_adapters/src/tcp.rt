@@ -1,4 +1,4 @@
-//! Links and gates over TCP. They tell nothing, and each count rises at each error.
+//! Links and gates over TCP. They tell nothing, and each count rises where a call fails.
 ghost use Rattle.std.specs.Prelude.{◌≡◌, IfOk, None};
 
 use crate::ReaderSource;

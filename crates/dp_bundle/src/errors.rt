@@ -10,7 +10,7 @@ use thiserror::Error;
 /// Why files are no program. A file is named by its number, from 0.
 #[derive(Debug, Drop, Error)]
 pub enum BundleError {
-    /// The file is not in the grammar.
+    /// The text of the file is no program, for this reason.
     #[error("{error}")]
     Source { file: u32, error: ParseError },
     /// The file is longer than [`FILE_LIMIT`](dp_tree::FILE_LIMIT).

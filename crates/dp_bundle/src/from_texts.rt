@@ -1,8 +1,6 @@
 //! The making of a bundle.
 
-ghost use Rattle.std.specs.Prelude.{◌≡◌, ◌⊎◌, ◌≤◌, length, Result, Err, IfOk, IfErr, MatchResult};
-ghost use Rattle.std.specs.Prelude.{List};
-ghost use Rattle.dp_tree.specs.FileNames.{file_limit};
+ghost use Rattle.std.specs.Prelude.{◌≡◌, ◌⊎◌, Result, Err, IfOk, IfErr, MatchResult};
 ghost use Rattle.dp_bundle.specs.Bundles.{AreForBundle, IsAnswer, IsBundleFile, IsRefused, Makes};
 ghost use Rattle.dp_bundle.specs.inner.Sources.{source_of as named_source};
 ghost use Rattle.dp_tree.specs.declared.bundle.Bundle.{Bundle as Made};
@@ -57,7 +55,7 @@ impl FromTexts for Bundle {
     /// The program of these files, by their names and texts; the first is the main file.
     ///
     /// The first file that is refused is named: `TooLong` where it is longer than [`FILE_LIMIT`], else `Source` where
-    /// it is not in the grammar. Takes time linear in the bytes.
+    /// its text is no program. Takes time linear in the bytes.
     fn new(alloc: Global, files: Items<(Bytes, Bytes)>) -> Result<Bundle, BundleError>
         requires { AreForBundle files }
         // What is answered is what the files make, unless memory runs out.

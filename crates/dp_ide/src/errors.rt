@@ -22,8 +22,9 @@ pub enum IdeError {
     /// The engine's link ended before a packet that was awaited.
     #[error("the peer ended")]
     PeerEnd,
-    /// Where a packet was awaited none stands: no frame begins with the byte at this offset from the first byte read,
-    /// or the text of the frame that begins there is no packet; the first is an init.
+    /// Where a packet was awaited none stands. The offset counts from the first byte read: to the first byte with which
+    /// no frame goes on, to a frame whose length passes the limit, or to a frame whose text is no packet; the first is
+    /// an init.
     #[error("bad packet at offset {offset}")]
     BadPacket {
         offset: u64,

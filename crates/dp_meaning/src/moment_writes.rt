@@ -22,8 +22,8 @@ use std::mem;
 /// How many moments an evaluation may have.
 pub(crate) const EVALUATION_LIMIT: u64 = 10_000;
 
-/// Makes those of the writes that have a number, in their order, in a state. It fails only out of memory, and then
-/// nothing is said of the state.
+/// Makes those of the writes that have a number, in their order, in a state. A write that is refused changes nothing
+/// and is not reported. It fails only out of memory, and then nothing is said of the state.
 pub fn write_all(
     alloc: Global,
     bundle: &Bundle,
@@ -144,7 +144,7 @@ fn keep(holds: bool, after: State, state: &mut State)
 
 /// The value of an expression in the top frame of a state, where it holds, and the state that its evaluation leaves;
 /// the state itself stays as it is. It does not hold where it is fatal, ends the program or has more than 10,000
-/// moments. Copies the state.
+/// moments, and then nothing is said of the state that is handed out. Copies the state.
 pub fn evaluation(
     alloc: Global,
     bundle: &Bundle,

@@ -6,8 +6,8 @@ ghost use Rattle.dp_meaning.specs.Trace.{function_called, function_of as name_of
 use dp_state::{FrameKind, Moment, MomentKind, State};
 use dp_value::{Bytes, Memory};
 
-/// The moment that has come in a state. Takes memory only for the name of the function that is entered or left; answers
-/// `Memory` also if the frames cannot be counted in 32 bits.
+/// The moment that has come in a state. Memory is taken for the name of the function that is entered or left; `Memory`
+/// is answered also if the frames cannot be counted in 32 bits.
 pub fn moment_of(kind: MomentKind, state: &State) -> Result<Moment, Memory>
     ensures { IfOk result (λ moment. moment ≡ moment_at kind state.now) }
 {

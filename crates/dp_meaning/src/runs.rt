@@ -20,7 +20,7 @@ use dp_value::Memory;
 use std::alloc::Global;
 
 /// Runs a program, at whose moments these writes are made, up to the moment of a number and its writes, or to its end
-/// where there is none. A run has at most `bound` moments.
+/// where there is none. Moments count from 1, so 0 runs to the end. A run has at most `bound` moments.
 pub fn run_to(
     alloc: Global,
     bundle: &Bundle,

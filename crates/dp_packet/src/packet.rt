@@ -49,6 +49,7 @@ pub struct StackLine {
     pub level: u32,
     pub uri: Bytes,
     pub line: u32,
+    /// The attribute `where`: `{main}`, `include` or the name of the function.
     pub place: Bytes,
 }
 

@@ -45,7 +45,7 @@ pub fn attribute_size(name: &[u8], value: &[u8]) -> u64
     size_of(name, value)
 }
 
-/// The same of a short name and a short value: a size that is counted in full. Takes no memory.
+/// The same of a name of at most 20 bytes and a value of at most 64: counted in full, and at most 500. Takes no memory.
 pub fn short_size(name: &[u8], value: &[u8]) -> u64
     requires name { length name.now ≤ 20 }
     requires value { length value.now ≤ short_value_limit }

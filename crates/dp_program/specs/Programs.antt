@@ -68,8 +68,7 @@ abbrev pub RequestedNames : Type 0
 RequestedNames = Option (List (List ℕ))
 
 -- These names were asked for, each once, in their order, and no other: all of them, or those up to
--- the file that was not
--- fetched. Where memory ran out it may have been any number of them.
+-- the file that was not fetched. Where memory ran out it may have been any number of them.
 abbrev pub RequestsFiles : {A : Type 0} → Result A ProgramError → RequestedNames → RequestedNames
     → List (List ℕ) → Type 0
 RequestsFiles (Ok a) before after names = after ≡ grown before names

@@ -78,7 +78,7 @@ fn fetch_next<H: Shelf>(
     }
 }
 
-/// Fetches files, each once, in their order, up to one that is not fetched. None of them is parsed.
+/// Fetches files, each once, in their order, up to one that is not fetched. It refuses none for its content.
 pub fn fetch_files<H: Shelf>(
     alloc: Global,
     names: &[String],

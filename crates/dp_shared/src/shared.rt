@@ -122,7 +122,7 @@ impl Shared {
     }
 
     /// Writes one entry, however deep, or the whole value, as [`write_at`] does; the other owners keep the value that
-    /// they have. It is copied first only where there are others and only a part of it is written.
+    /// they have. It is copied first where there are others or it is not settled, and only a part of it is written.
     ///
     /// The causes are those of [`write_at`]. After a refusal the value is as before.
     pub fn write(
@@ -180,7 +180,7 @@ impl Shared {
     }
 
     /// Removes the entry under `keys`, however deep, as [`remove_at`] does; the other owners keep the value that they
-    /// have. It is copied first where there are others and the removal is not refused.
+    /// have. It is copied first where there are others or it is not settled, and the removal is not refused.
     ///
     /// The causes are those of [`remove_at`], and what has one is refused for it also where there is no memory. After a
     /// refusal the value is as before.

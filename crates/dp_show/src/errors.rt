@@ -9,8 +9,9 @@ pub enum ShowError {
     /// The input ended inside a frame.
     #[error("the input ended inside a frame")]
     PeerEnd,
-    /// What stands at this offset from the first byte read is no packet: no frame begins with that byte, or the text of
-    /// the frame that begins there is no markup within 64 levels.
+    /// Where a packet has to stand none does. The offset counts from the first byte read: to the first byte with which
+    /// no frame goes on, to a frame whose length passes the limit, or to a frame whose text is no markup within 64
+    /// levels.
     #[error("bad packet at offset {offset}")]
     BadPacket { offset: u64 },
     /// The input failed.

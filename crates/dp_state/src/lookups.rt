@@ -59,7 +59,8 @@ impl State {
         owner(frames, position)
     }
 
-    /// The variables that the frame at a level uses; level 0 is the top frame. Takes no memory.
+    /// The variables that the frame at a level uses. Level 0 is the top frame, and a level beyond the frames is that of
+    /// the lowest one. Takes no memory.
     pub fn variables(&self, level: usize) -> &Vars
         ensures { result.now ≡ variables_at self.now level }
     {
@@ -77,7 +78,8 @@ impl State {
         }
     }
 
-    /// The value of a variable at a level; that of the global variable where the name is bound. Takes no memory.
+    /// The value of a variable at a level, as [`State::variables`] counts them; that of the global variable where the
+    /// name is bound. Takes no memory.
     pub fn read_at(&self, level: usize, name: &Bytes) -> Option<&Shared>
         ensures { option_map (λ value. value.now) result ≡ read_at self.now level name.now }
     {

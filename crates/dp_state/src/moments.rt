@@ -28,18 +28,31 @@ pub struct Moment {
 /// Why a program could not go on.
 #[derive(Clone, Copy, Debug, PartialEq, Eq)]
 pub enum FatalKind {
+    /// An integer that does not fit 64 bits.
     Overflow,
+    /// A division by zero.
     DivByZero,
+    /// An index that is no key: an array.
     BadKey,
+    /// A push behind the greatest key that there is.
     NextIndex,
+    /// Operands, arguments or indices of types for which the language has no answer.
     Unsupported,
+    /// A value that weighs more than a value may.
     TooHeavy,
+    /// A call of a function that is not declared.
     NoFunction,
+    /// Too few or too many arguments, or one that is out of its range.
     Arguments,
+    /// A function that is declared already.
     Redeclared,
+    /// More frames than [`FRAME_LIMIT`](crate::FRAME_LIMIT).
     TooDeep,
+    /// A required file that the program does not have.
     NoFile,
+    /// An entry that is written into, or taken from, true or an integer.
     Scalar,
+    /// More output than [`OUTPUT_LIMIT`](crate::OUTPUT_LIMIT).
     OutputFull,
 }
 

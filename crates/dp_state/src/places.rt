@@ -22,8 +22,10 @@ use std::mem;
 impl State {
     /// Gives the variable of this name at a level a value, or gives it to the entry of the variable under `keys`, or
     /// pushes it there. A key that is `None` stands for an index that is no key. A name that is bound is the global
-    /// variable's. What is missing is created. The work grows with the number of keys, and not with what the variable
-    /// holds.
+    /// variable's. What is missing is created. A level beyond the frames is that of the lowest one.
+    ///
+    /// The work grows with the number of keys, and not with what the variable holds, but where that has other owners:
+    /// then it is copied first. A value with other owners that goes under keys is copied too.
     ///
     /// The causes are tried key by key: `Scalar` and `Unsupported` by what holds the entry, then `BadKey`; behind the
     /// last key `NextIndex`, then `TooHeavy`. After a refusal the state is as before.

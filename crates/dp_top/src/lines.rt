@@ -7,7 +7,7 @@ use dp_outside::ShelfError;
 /// The most bytes of a script, and of a list of events.
 pub(crate) const LINES_LIMIT: usize = 1_048_576;
 
-/// The failure that it is that a file of lines was not fetched.
+/// The failure to report where a script or a list of events was not fetched.
 pub(crate) fn unfetched<'a>(name: &'a str, why: ShelfError) -> Refused<'a>
     ensures failed { why ≡ ShelfError.Failed → (result.failure ≡ Failure.ShelfFailed) × (result.name.now ≡ name.now) }
     ensures missing { why ≡ ShelfError.Missing → (result.failure ≡ Failure.NoFile) × (result.name.now ≡ name.now) }

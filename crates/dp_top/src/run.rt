@@ -28,7 +28,7 @@ fn name_at(names: &[String], number: u32) -> &[u8]
     }
 }
 
-/// The failure that it is that files make no program.
+/// The failure to report where files make no program.
 fn program_failure(why: &ProgramError) -> Failure
     ensures { result ≡ program_failure why.now }
 {

@@ -9,8 +9,9 @@ use thiserror::Error;
 /// Why a view shows nothing.
 #[derive(Clone, Copy, Debug, Error, PartialEq, Eq)]
 pub enum ViewError {
-    /// The code of the error response, DBGp 1.0, "Error Codes": 301 where the stack has no such level, 302 where there
-    /// is no such context, 300 where a name is no name of a property or nothing stands there, tried in this order.
+    /// The code of the error response, DBGp 1.0, "Error Codes". Of this crate's calls: 301 where the stack has no such
+    /// level, 302 where there is no such context, 300 where a name is no name of a property or nothing stands there,
+    /// tried in this order. Calls of other crates that answer this type say which codes are theirs.
     #[error("error {0}")]
     Code(u16),
     /// Out of memory.

@@ -14,7 +14,8 @@ pub enum WireError {
     /// A byte in the place of the NUL behind a packet's text.
     #[error("no NUL at offset {offset}")]
     NoNul { offset: u64 },
-    /// A length that passes the limit.
+    /// A length that passes the limit: the number that the digits are up to the one with which a packet's passes it, or
+    /// 1,048,577 for a command.
     #[error("too long: {length}")]
     TooLong { length: u64 },
 }
