@@ -5,6 +5,7 @@ use crate::lanes::told_lane;
 use crate::lists::told_events;
 use crate::registries::told_full;
 use crate::requests::{told_call, told_key};
+use crate::steps::{told_engine, told_joined};
 use dp_lanes::LaneKind;
 use dp_rows::{Differences, Memory, Row};
 use std::alloc::Global;
@@ -18,15 +19,21 @@ enum Call {
     Up,
     Down,
     Full,
+    Engine,
+    Given,
+    Moved,
 }
 
-const CALLS: [(&[u8], Call); 6] = [
+const CALLS: [(&[u8], Call); 9] = [
     (b"events", Call::Events),
     (b"asked", Call::Asked),
     (b"key", Call::Key),
     (b"up", Call::Up),
     (b"down", Call::Down),
     (b"full", Call::Full),
+    (b"engine", Call::Engine),
+    (b"given", Call::Given),
+    (b"moved", Call::Moved),
 ];
 
 /// The call of this name.
@@ -48,6 +55,9 @@ fn answered(alloc: Global, call: Call, input: &[u8]) -> Result<String, Memory> {
         Call::Up => told_lane(alloc, LaneKind::Up, input),
         Call::Down => told_lane(alloc, LaneKind::Down, input),
         Call::Full => told_full(alloc, input),
+        Call::Engine => told_engine(alloc, input),
+        Call::Given => told_joined(alloc, true, input),
+        Call::Moved => told_joined(alloc, false, input),
     }
 }
 

@@ -1,5 +1,5 @@
-//! The rows of calls of the proxy's parts: event lists, lanes, what an IDE asks, keys of engines, the registry. Makes
-//! each call, and prints for each file of rows how many there are and each that differs.
+//! The rows of calls of the proxy and its parts: event lists, lanes, what an IDE asks, keys of engines, the registry,
+//! steps. Makes each call, and prints for each file of rows how many there are and each that differs.
 #![tactic(auto)]
 
 mod calls;
@@ -7,6 +7,7 @@ mod lanes;
 mod lists;
 mod registries;
 mod requests;
+mod steps;
 
 use calls::differences_of;
 use dp_rows::{Memory, Report, RowFile, read_files, rows_of};
