@@ -34,13 +34,13 @@ use Rattle.dp_step_parts.specs.Rest.{to_signal}
 use Rattle.dp_step.specs.declared.machine.Arrival.TheVariants as arrival
 use Rattle.dp_step.specs.declared.machine.Machine.{Machine}
 use Rattle.dp_step.specs.declared.machine.Progress.TheVariants as progress
-use Rattle.dp_step.specs.declared.work.Hand.{Hand}
-use Rattle.dp_step.specs.declared.work.Head.{Head}
-use Rattle.dp_step.specs.declared.work.Turns.{Turns}
-use Rattle.dp_step.specs.declared.work.Hand.TheVariants as hand
+use Rattle.dp_step_statements.specs.declared.work.Hand.{Hand}
+use Rattle.dp_step_statements.specs.declared.work.Head.{Head}
+use Rattle.dp_step_statements.specs.declared.work.Turns.{Turns}
+use Rattle.dp_step_statements.specs.declared.work.Hand.TheVariants as hand
 use Rattle.dp_step.specs.inner.Leaps.{HasRun, Leaps, LeapsBy, RunsOut, driven, part_with}
 use Rattle.dp_step.specs.inner.Moves.{Comes, Goes, IsOver, follows_of, rest_with, setting_at}
-use Rattle.dp_step.specs.Rest.{after_of, tests_of}
+use Rattle.dp_step_statements.specs.Rest.{after_of, tests_of}
 use Rattle.dp_step.specs.Stands.{NoneAbove, StandsFor, rest_of}
 use Rattle.dp_step.proofs.Smalls.{rest-by}
 use Rattle.dp_step.proofs.MachineSteps.{nothing-by, of_image, onward, raised}

@@ -1,7 +1,3 @@
-pub mod CallLaws
-pub mod FirstStatements
-pub mod TurnLaws
-pub mod MomentSteps
 pub mod Smalls
 pub mod Ends
 pub mod Courses

@@ -27,14 +27,14 @@ use Rattle.dp_actions.proofs.Runs.{and_then-assoc, and_then-same}
 use Rattle.dp_step.specs.declared.machine.Machine.{Machine}
 use Rattle.dp_step_parts.specs.declared.work.Given.{Given}
 use Rattle.dp_step_parts.specs.declared.work.Given.TheVariants as given
-use Rattle.dp_step.specs.declared.work.Hand.{Hand}
-use Rattle.dp_step.specs.declared.work.Small.{Small}
-use Rattle.dp_step.specs.declared.work.Waiting.{Waiting}
-use Rattle.dp_step.specs.declared.work.Waiting.TheVariants as waiting
-use Rattle.dp_step.specs.Rest.{behind, hand_rest, next_rest, small_rest, waiting_rest}
+use Rattle.dp_step_statements.specs.declared.work.Hand.{Hand}
+use Rattle.dp_step_statements.specs.declared.work.Small.{Small}
+use Rattle.dp_step_statements.specs.declared.work.Waiting.{Waiting}
+use Rattle.dp_step_statements.specs.declared.work.Waiting.TheVariants as waiting
+use Rattle.dp_step_statements.specs.Rest.{behind, hand_rest, next_rest, small_rest, waiting_rest}
 use Rattle.dp_step_parts.specs.Rest.{Follows, to_signal, to_value}
 use Rattle.dp_step.specs.Stands.{depth_after, pending_rest, rest_of}
-use Rattle.dp_step.specs.inner.Goes.{Goes}
+use Rattle.dp_step_statements.specs.Goes.{Goes}
 use Rattle.dp_step.specs.inner.Moves.{IsOver, Moves, MovesBy, body_with, ends_call, file_with, follows_of, leave_if, rest_with, setting_at, small_with}
 
 -- ---- the innermost item

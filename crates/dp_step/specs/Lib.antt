@@ -1,5 +1,4 @@
 pub mod Loans
-pub mod Rest
 pub mod Stands
 pub mod Written
 pub mod inner

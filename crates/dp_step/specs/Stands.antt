@@ -21,10 +21,10 @@ use Rattle.dp_step.specs.declared.machine.Progress.{Progress}
 use Rattle.dp_step.specs.declared.machine.Progress.TheVariants as progress
 use Rattle.dp_step_parts.specs.declared.work.Given.{Given}
 use Rattle.dp_step_parts.specs.declared.work.Given.TheVariants as given
-use Rattle.dp_step.specs.declared.work.Hand.TheVariants as hand
-use Rattle.dp_step.specs.declared.work.Waiting.{Waiting}
-use Rattle.dp_step.specs.declared.work.Waiting.TheVariants as waiting
-use Rattle.dp_step.specs.Rest.{hand_rest, waiting_rest}
+use Rattle.dp_step_statements.specs.declared.work.Hand.TheVariants as hand
+use Rattle.dp_step_statements.specs.declared.work.Waiting.{Waiting}
+use Rattle.dp_step_statements.specs.declared.work.Waiting.TheVariants as waiting
+use Rattle.dp_step_statements.specs.Rest.{hand_rest, waiting_rest}
 use Rattle.dp_step_parts.specs.Rest.{Follows}
 
 -- ---- all that a machine has to do

@@ -3,11 +3,11 @@
 ghost use Rattle.std.specs.Prelude.{◌≡◌, ◌||◌, false, not, slice_get};
 ghost use Rattle.std.specs.Option.{option_map_or};
 ghost use Rattle.dp_depth.specs.Depth.{any_deep as comes_deep, is_named, statement_is_deep as is_deep_statement};
-ghost use Rattle.dp_step.specs.Rest.{after_of, tests_of};
+ghost use Rattle.dp_step_statements.specs.Rest.{after_of, tests_of};
 ghost use Rattle.dp_step.specs.inner.Shallow.{runs_whole};
 
-use crate::work::{Hand, Head};
 use dp_depth::{DeepNames, any_deep, is_deep, statement_is_deep};
+use dp_step_statements::{Hand, Head};
 use dp_tree::Statement;
 use dp_value::Items;
 

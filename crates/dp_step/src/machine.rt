@@ -6,10 +6,10 @@ ghost use Rattle.dp_step.specs.inner.Moves.{IsEnd, arrived_at};
 
 use crate::small::{file_hand, put_hand};
 use crate::steps::Steps;
-use crate::work::{Hand, Waiting};
 use dp_actions::Halt;
 use dp_meaning::moment_of;
 use dp_state::{FRAME_LIMIT, Moment, MomentKind, Outcome, State};
+use dp_step_statements::{Hand, Waiting};
 use dp_tree::Bundle;
 use dp_value::Memory;
 use std::alloc::Global;

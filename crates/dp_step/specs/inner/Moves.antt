@@ -24,14 +24,14 @@ use Rattle.dp_step.specs.declared.machine.Progress.{Progress}
 use Rattle.dp_step.specs.declared.machine.Progress.TheVariants as progress
 use Rattle.dp_step_parts.specs.declared.work.Given.{Given}
 use Rattle.dp_step_parts.specs.declared.work.Given.TheVariants as given
-use Rattle.dp_step.specs.declared.work.Hand.{Hand}
-use Rattle.dp_step.specs.declared.work.Next.{Next}
-use Rattle.dp_step.specs.declared.work.Small.{Small}
-use Rattle.dp_step.specs.declared.work.Waiting.{Waiting}
-use Rattle.dp_step.specs.declared.work.Work.{Work}
-use Rattle.dp_step.specs.Rest.{behind, hand_rest, next_rest, small_rest}
+use Rattle.dp_step_statements.specs.declared.work.Hand.{Hand}
+use Rattle.dp_step_statements.specs.declared.work.Next.{Next}
+use Rattle.dp_step_statements.specs.declared.work.Small.{Small}
+use Rattle.dp_step_statements.specs.declared.work.Waiting.{Waiting}
+use Rattle.dp_step_statements.specs.declared.work.Work.{Work}
+use Rattle.dp_step_statements.specs.Rest.{behind, hand_rest, next_rest, small_rest}
 use Rattle.dp_step_parts.specs.Rest.{Follows, to_value}
-use Rattle.dp_step.specs.Rest.{waiting_rest, work_rest}
+use Rattle.dp_step_statements.specs.Rest.{waiting_rest, work_rest}
 use Rattle.dp_step.specs.Stands.{HasEnded, depth_after, pending_rest, rest_of}
 
 -- ---- what a machine has to do beside its hand

@@ -3,10 +3,10 @@
 use Rattle.std.specs.Prelude.{ℕ, Bool, false, not, ◌||◌, List, slice_get}
 use Rattle.std.specs.Option.{option_map_or}
 use Rattle.dp_depth.specs.Depth.{any_deep, is_deep, statement_is_deep}
-use Rattle.dp_step.specs.declared.work.Hand.{Hand}
-use Rattle.dp_step.specs.declared.work.Hand.TheVariants as hand
-use Rattle.dp_step.specs.declared.work.Turns.{Turns}
-use Rattle.dp_step.specs.Rest.{after_of, tests_of}
+use Rattle.dp_step_statements.specs.declared.work.Hand.{Hand}
+use Rattle.dp_step_statements.specs.declared.work.Hand.TheVariants as hand
+use Rattle.dp_step_statements.specs.declared.work.Turns.{Turns}
+use Rattle.dp_step_statements.specs.Rest.{after_of, tests_of}
 
 module _ (deep : List ℕ → Bool) where
   -- what the turns evaluate, and their body

@@ -1,0 +1,4 @@
+pub mod CallLaws
+pub mod FirstStatements
+pub mod TurnLaws
+pub mod MomentSteps

@@ -1,0 +1,10 @@
+use Rattle.std.proofs.Common.{refl}
+use Rattle.dp_actions.specs.Run.{and_then}
+use Rattle.dp_step_statements.proofs.statements.without_arm.Goals as goal
+
+pub returns-in-None : goal.returns-in-None
+unfolding and_then
+returns-in-None c = λ setting k s. rw (c.in-None.is, c.signal.ensures) refl
+
+pub returns-in-Some : goal.returns-in-Some
+returns-in-Some c = λ setting k s. rw c.in-Some.is refl

@@ -1,0 +1,256 @@
+//! The turns of loops, and what waits for a signal.
+
+ghost use Rattle.std.specs.Prelude.{◌≡◌, length};
+ghost use Rattle.dp_state.specs.declared.state.State.{State as AnyState};
+ghost use Rattle.dp_actions.specs.Expressions.{evaluations};
+ghost use Rattle.dp_actions.specs.Loops.{entries, last_holds as ends_true, after_body as over};
+ghost use Rattle.dp_actions.specs.Run.{and_then};
+ghost use Rattle.dp_actions.specs.Setting.{Setting};
+ghost use Rattle.dp_step_statements.specs.Rest.{do_decided, do_test, do_turns_of, each_from};
+ghost use Rattle.dp_step_statements.specs.Rest.{next_rest, signal_rest, small_rest};
+ghost use Rattle.dp_step_statements.specs.Rest.{tests_of, turns_decided, turns_next, turns_of, turns_tested};
+ghost use Rattle.dp_step_parts.specs.Rest.{Follows, to_signal};
+
+use crate::next::{signal, values_first};
+use crate::work::{
+    AfterValue, DoTurns, EachTurns, ForSignal, ForValues, Hand, Head, Next, Small, Turns, Work,
+};
+use dp_actions::{LoopStep, Signal, after_body, last_holds};
+use dp_shared::Shared;
+use dp_state::{MomentKind, Outcome};
+use dp_step_parts::Hand as PartHand;
+use dp_value::{Items, Value};
+use std::alloc::Global;
+
+/// Turns of a `while` or a `for`, at most so many.
+pub(crate) fn turn<'p>(alloc: Global, turns: Turns<'p>, left: u64) -> Small<'p>
+    ensures { (setting : Setting) (k : Follows) (s : AnyState)
+        → small_rest setting result k s ≡ and_then (turns_of setting turns.entry left s) (to_signal k) }
+{
+    if left == 0 {
+        Small {
+            moment: None,
+            next: Next {
+                hand: Hand::Over(Outcome::Bound),
+                waits: None,
+            },
+        }
+    } else {
+        Small {
+            moment: Some((MomentKind::Place, turns.line)),
+            next: tests_first(alloc, turns, left - 1),
+        }
+    }
+}
+
+/// The tests of a turn, after which at most so many are left.
+fn tests_first<'p>(alloc: Global, turns: Turns<'p>, left: u64) -> Next<'p>
+    ensures { (setting : Setting) (k : Follows) (s : AnyState)
+        → next_rest setting result k s ≡ and_then (evaluations (tests_of turns.entry.head) setting s)
+        (λ values t. and_then (turns_tested setting turns.entry left values t) (to_signal k)) }
+{
+    match turns.head {
+        Head::While(test) => Next {
+            hand: Hand::Part(PartHand::Evaluate(test)),
+            waits: Some(Work::AfterValue(AfterValue::Test(turns, left))),
+        },
+        Head::For(tests, _) => values_first(
+            alloc,
+            tests,
+            Work::ForValues(ForValues::Tests(turns, left)),
+        ),
+    }
+}
+
+/// A turn whose tests are evaluated.
+pub(crate) fn tested<'p>(turns: Turns<'p>, left: u64, holds: bool) -> Next<'p>
+    ensures { (setting : Setting) (k : Follows) (s : AnyState)
+        → next_rest setting result k s ≡ and_then (turns_decided setting turns.entry left holds s) (to_signal k) }
+{
+    if holds {
+        Next {
+            hand: Hand::Run(turns.body),
+            waits: Some(Work::ForSignal(ForSignal::Body(turns, left))),
+        }
+    } else {
+        signal(Signal::Next)
+    }
+}
+
+/// Whether the last of the values of a test holds; without one there is no end.
+pub(crate) fn test_holds(values: Items<Shared>) -> bool
+    ensures { result ≡ ends_true values }
+{
+    let holds = last_holds(values.as_slice());
+    drop(values);
+    holds
+}
+
+/// Turns of a `do`, at most so many.
+pub(crate) fn do_turn<'p>(turns: DoTurns<'p>, left: u64) -> Next<'p>
+    ensures { (setting : Setting) (k : Follows) (s : AnyState)
+        → next_rest setting result k s ≡ and_then (do_turns_of setting turns.entry left s) (to_signal k) }
+{
+    if left == 0 {
+        Next {
+            hand: Hand::Over(Outcome::Bound),
+            waits: None,
+        }
+    } else {
+        Next {
+            hand: Hand::Run(turns.body),
+            waits: Some(Work::ForSignal(ForSignal::DoBody(turns, left - 1))),
+        }
+    }
+}
+
+/// A turn of a `do` whose test is evaluated.
+pub(crate) fn do_tested<'p>(turns: DoTurns<'p>, left: u64, holds: bool) -> Next<'p>
+    ensures { (setting : Setting) (k : Follows) (s : AnyState)
+        → next_rest setting result k s ≡ and_then (do_decided setting turns.entry left holds s) (to_signal k) }
+{
+    if holds {
+        Next {
+            hand: Hand::DoTurn(turns, left),
+            waits: None,
+        }
+    } else {
+        signal(Signal::Next)
+    }
+}
+
+/// The turns of a `foreach` from the entry at a position on.
+pub(crate) fn each_turn<'p>(turns: EachTurns<'p>, subject: Shared, at: usize) -> Small<'p>
+    ensures { (setting : Setting) (k : Follows) (s : AnyState)
+        → small_rest setting result k s ≡ and_then (each_from setting turns.entry subject at s) (to_signal k) }
+{
+    if at >= entry_count(&subject) {
+        drop(subject);
+        Small {
+            moment: None,
+            next: signal(Signal::Next),
+        }
+    } else {
+        Small {
+            moment: Some((MomentKind::Place, turns.line)),
+            next: Next {
+                hand: Hand::Bind(turns, subject, at),
+                waits: None,
+            },
+        }
+    }
+}
+
+/// How many entries a `foreach` walks.
+pub(crate) fn entry_count(subject: &Shared) -> usize
+    ensures { result ≡ length (entries subject.now) }
+{
+    match subject.value() {
+        Value::Array(array) => array.len(),
+        _ => 0,
+    }
+}
+
+/// A signal is given to a part that waits for one.
+pub(crate) fn receive_signal<'p>(alloc: Global, work: ForSignal<'p>, given: Signal) -> Small<'p>
+    ensures { (setting : Setting) (k : Follows) (s : AnyState)
+        → small_rest setting result k s ≡ signal_rest setting work.entry given k s }
+{
+    match work {
+        ForSignal::Rest(rest, at) => match given {
+            Signal::Next => Small {
+                moment: None,
+                next: Next {
+                    hand: Hand::Each(rest, at),
+                    waits: None,
+                },
+            },
+            _ => Small {
+                moment: None,
+                next: signal(given),
+            },
+        },
+        ForSignal::Body(turns, left) => body_over(alloc, turns, left, given),
+        ForSignal::DoBody(turns, left) => do_over(turns, left, given),
+        ForSignal::EachBody(turns, subject, at) => each_over(turns, subject, at, given),
+    }
+}
+
+/// The body of a turn is over.
+fn body_over<'p>(alloc: Global, turns: Turns<'p>, left: u64, given: Signal) -> Small<'p>
+    ensures { (setting : Setting) (k : Follows) (s : AnyState)
+        → small_rest setting result k s ≡ and_then (over given (turns_next setting turns.entry left) s) (to_signal k) }
+{
+    match after_body(given) {
+        LoopStep::On => Small {
+            moment: None,
+            next: turns_on(alloc, turns, left),
+        },
+        LoopStep::Out(out) => Small {
+            moment: None,
+            next: signal(out),
+        },
+    }
+}
+
+/// What comes between two turns, and then at most so many.
+fn turns_on<'p>(alloc: Global, turns: Turns<'p>, left: u64) -> Next<'p>
+    ensures { (setting : Setting) (k : Follows) (s : AnyState)
+        → next_rest setting result k s ≡ and_then (turns_next setting turns.entry left s) (to_signal k) }
+{
+    match turns.head {
+        Head::While(_) => Next {
+            hand: Hand::Turn(turns, left),
+            waits: None,
+        },
+        Head::For(_, after) => values_first(
+            alloc,
+            after,
+            Work::ForValues(ForValues::Turns(turns, left)),
+        ),
+    }
+}
+
+/// The body of a turn of a `do` is over.
+fn do_over<'p>(turns: DoTurns<'p>, left: u64, given: Signal) -> Small<'p>
+    ensures { (setting : Setting) (k : Follows) (s : AnyState)
+        → small_rest setting result k s ≡ and_then (over given (do_test setting turns.entry left) s) (to_signal k) }
+{
+    match after_body(given) {
+        LoopStep::On => Small {
+            moment: Some((MomentKind::Place, turns.line)),
+            next: Next {
+                hand: Hand::Part(PartHand::Evaluate(turns.test)),
+                waits: Some(Work::AfterValue(AfterValue::DoTest(turns, left))),
+            },
+        },
+        LoopStep::Out(out) => Small {
+            moment: None,
+            next: signal(out),
+        },
+    }
+}
+
+/// The body of a turn of a `foreach` is over.
+fn each_over<'p>(turns: EachTurns<'p>, subject: Shared, at: usize, given: Signal) -> Small<'p>
+    ensures { (setting : Setting) (k : Follows) (s : AnyState)
+        → small_rest setting result k s ≡ and_then (over given (each_from setting turns.entry subject at) s)
+        (to_signal k) }
+{
+    match after_body(given) {
+        LoopStep::On => Small {
+            moment: None,
+            next: Next {
+                hand: Hand::EachTurn(turns, subject, at),
+                waits: None,
+            },
+        },
+        LoopStep::Out(out) => {
+            drop(subject);
+            Small {
+                moment: None,
+                next: signal(out),
+            }
+        }
+    }
+}
