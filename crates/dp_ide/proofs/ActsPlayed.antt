@@ -1,5 +1,5 @@
 -- What each instruction does where it is played, and why it is not.
-use Rattle.std.proofs.Common.{◌≡◌, ℕ, ◌≤◌, List, [], ◌∷◌, ◌++◌, Option, Some, refl, sym, ap, ◌∙◌, subst, append_assoc, append-nil, codes, decimal}
+use Rattle.std.proofs.Common.{◌≡◌, inl, ℕ, ◌≤◌, List, [], ◌∷◌, ◌++◌, Option, Some, refl, sym, ap, ◌∙◌, subst, append_assoc, append-nil, codes, decimal}
 use Rattle.std.specs.Prelude.{Result, Ok, Err, OnOk}
 use Rattle.std.specs.Str.Parse.{digits_value}
 use Rattle.std.specs.Io.KnownBytes.{Appends, Consumes}
@@ -46,7 +46,8 @@ module _ (one : Instruction) (old : Received) (before : Kept) (source sink out :
       → Appends sink.told_before sink.told (command_frame line) → TakesAnswer id before after old new source
       → Performs (one ∷ []) old new before after source sink out
   sent_performed new after line id is prints sends t =
-      performs_one one old new before after source sink out t.piece [] t.texts t.messages t.consumed t.takes t.are
+      performs_one one old new before after source sink out t.piece [] t.texts t.messages t.consumed t.takes t.late
+      t.are
       (λ printed. subst (λ (a : Act). Does a (heard_of before printed) t.messages (heard_of after (printed ++ [])))
       (sym is)
       (subst (λ (l : List ℕ). Does (Send line id) (heard_of before printed) t.messages (heard_of after l))
@@ -62,7 +63,7 @@ module _ (one : Instruction) (old : Received) (before : Kept) (source sink out :
   print_performed is reads sends prints =
       performs_one one old old before before source sink out [] (printed_line before) [] []
       (subst (λ (t : Option (List ℕ)). Consumes source.told_before t []) reads (Consumes-nil source.told_before))
-      (takes_none old) tt
+      (takes_none old) (inl refl) tt
       (λ printed. subst (λ (a : Act). Does a (heard_of before printed) []
       (heard_of before (printed ++ printed_line before))) (sym is) (
         tt,

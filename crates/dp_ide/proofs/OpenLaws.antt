@@ -1,12 +1,12 @@
 -- The first message, and the commands of a script.
-use Rattle.std.proofs.Common.{◌≡◌, ◌↔◌, inl, inr, ℕ, suc, Bool, true, false, List, [], ◌∷◌, ◌++◌, refl, sym, ap, ◌∙◌, subst, append-nil, arith}
+use Rattle.std.proofs.Common.{◌≡◌, ◌↔◌, inl, inr, ℕ, suc, ◌+◌, ◌<◌, Bool, true, false, List, [], ◌∷◌, ◌++◌, length, refl, sym, ap, ◌∙◌, subst, append-nil, arith, length-append, decimal}
 use Rattle.std.specs.Prelude.{Result, Ok, Err, IfOk, IfErr, IsOk, IsTrue}
 use Rattle.std.specs.List.{All}
 use Rattle.std.specs.Io.KnownBytes.{Consumes}
 use Rattle.std.proofs.lemmas.Bool.{false≢true}
 use Rattle.std.proofs.lemmas.List.Elements.{All-push}
 use Rattle.dp_outside.specs.Changes.{Change}
-use Rattle.dp_wire.specs.Frames.{packet_frame}
+use Rattle.dp_wire.specs.Frames.{packet_frame, packets_in}
 use Rattle.dp_wire.specs.Received.{Received}
 use Rattle.dp_ide.specs.declared.errors.IdeError.{IdeError}
 use Rattle.dp_ide.specs.declared.errors.IdeError.TheVariants.{BadPacket}
@@ -17,8 +17,9 @@ use Rattle.dp_ide.specs.declared.instruction.Act.TheVariants.{Send}
 use Rattle.dp_ide.specs.declared.instruction.Instruction.{Instruction}
 use Rattle.dp_ide.specs.Messages.{is_init}
 use Rattle.dp_grammar.specs.Lines.{AreSaid}
+use Rattle.dp_ide.specs.Plays.{IsReadUpTo}
 use Rattle.dp_ide.specs.Scripts.{ActLine, Says, SaysAt}
-use Rattle.dp_ide.specs.inner.Progress.{TakesNext, LacksNext, NextFails, OpenFails, Stood, IsPlayable}
+use Rattle.dp_ide.specs.inner.Progress.{TakesNext, LacksNext, NextFails, ComesLate, OpenFails, Stood, StoodUpTo, IsPlayable}
 use Rattle.dp_ide.proofs.EndLaws.{one_message_of}
 
 -- ---- the init
@@ -28,7 +29,7 @@ module _ (old new : Received) (source : Change) (last : Message) (none : old.hel
   whole : t.piece ≡ (packet_frame t.text ++ []) ++ new.held
   whole = ap (λ (l : List ℕ). l ++ t.piece) (sym none) ∙ t.takes.whole
 
-  stood : (heard : Kept) → is_init last.packet ≡ true → heard.last ≡ last → heard.output.items ≡ []
+  abbrev stood : (heard : Kept) → is_init last.packet ≡ true → heard.last ≡ last → heard.output.items ≡ []
       → Stood t.piece [] new heard []
   stood heard is same empty = record {
     texts = t.text ∷ [];
@@ -46,10 +47,34 @@ module _ (old new : Received) (source : Change) (last : Message) (none : old.hel
     };
   }
 
+  some : t.piece ≡ [] → ⊥
+  some nothing =
+      let some_byte : length (packet_frame t.text) ≡ length (decimal (length t.text) ++ 0 ∷ [] ++ t.text)
+      + 1 = length-append (decimal (length t.text) ++ 0 ∷ [] ++ t.text) (0 ∷ []) in
+      omega (
+        arith,
+        some_byte,
+        ap length (sym whole ∙ nothing),
+        length-append (packet_frame t.text ++ []) new.held,
+        length-append (packet_frame t.text) [],
+      )
+
+  up_to : ComesLate old.held t.piece (t.text ∷ []) → IsReadUpTo (t.text ∷ []) t.piece
+  up_to (inl nothing) = absurd (some nothing)
+  up_to (inr l) = record {
+    front = l.front;
+    piece = l.last;
+    whole = l.whole;
+    short = l.short;
+    fewer = subst (λ (held : List ℕ). length (packets_in (held ++ l.front)) < 1) none l.fewer;
+  }
+
   pub opened : (r : Result Kept IdeError) → IsOk r ↔ IsTrue (is_init last.packet)
       → IfOk r (λ heard. (heard.last ≡ last) × (heard.output.items ≡ []))
-      → IfOk r (λ heard. (read : List ℕ) × Consumes source.told_before source.told read × Stood read [] new heard [])
-  opened (Ok heard) is h = (t.piece, t.consumed, stood heard (is.0 refl) h.0 h.1)
+      → IfOk r (λ heard. (read : List ℕ) × Consumes source.told_before source.told read
+      × StoodUpTo read [] new heard [])
+  opened (Ok heard) is h =
+      (t.piece, t.consumed, record { stood = stood heard (is.0 refl) h.0 h.1; up_to = up_to t.late })
   opened (Err why) is h = tt
 
   not_init : (r : Result Kept IdeError) (why : IdeError) → r ≡ Err why → IsOk r ↔ IsTrue (is_init last.packet)

@@ -26,8 +26,8 @@ use Rattle.dp_ide.specs.declared.instruction.Instruction.{Instruction}
 use Rattle.dp_ide.specs.Messages.{IsMessage, AreMessages, is_init}
 use Rattle.dp_ide.specs.Instructions.{Heard, Does, Goes, Played, expected, sent, sent_by}
 use Rattle.dp_ide.specs.Plays.{Progress, Comes, Waiting, IsUnfit, IsBadAt, Lacks, StopsAt, Ends, init, response}
-use Rattle.dp_ide.proofs.AwaitLaws.{each_append, are_append, frames_then, packets_are, rest_is, rose_since, takes_none}
-use Rattle.dp_ide.specs.inner.Progress.{heard_of, Takes, LacksNext, Stood, Performs, StopsHere, WaitsHere, PerformFails, EndsFrom, OpenFails, printed_line}
+use Rattle.dp_ide.proofs.AwaitLaws.{each_append, are_append, frames_then, packets_are, rest_is, rose_since, takes_none, up_to_more}
+use Rattle.dp_ide.specs.inner.Progress.{heard_of, ComesLate, Takes, LacksNext, Stood, StoodUpTo, Performs, StopsHere, WaitsHere, PerformFails, EndsFrom, OpenFails, printed_line}
 
 -- ---- instructions
 
@@ -66,11 +66,11 @@ played_more done one heard after messages now played does = record {
 
 stood_as : (read again : List ℕ) (done twice : List Instruction) (held : Received) (kept : Kept) (printed more : List ℕ)
     → read ≡ again → done ≡ twice → printed ≡ more
-    → Stood read done held kept printed → Stood again twice held kept more
+    → StoodUpTo read done held kept printed → StoodUpTo again twice held kept more
 stood_as read again done twice held kept printed more r d p stood =
-    subst (λ (l : List ℕ). Stood l twice held kept more) r (subst
-    (λ (l : List Instruction). Stood read l held kept more) d
-    (subst (λ (l : List ℕ). Stood read done held kept l) p stood))
+    subst (λ (l : List ℕ). StoodUpTo l twice held kept more) r (subst
+    (λ (l : List Instruction). StoodUpTo read l held kept more) d
+    (subst (λ (l : List ℕ). StoodUpTo read done held kept l) p stood))
 
 abbrev stood_piece : (read piece : List ℕ) (done : List Instruction) (held : Received) (kept : Kept) (printed : List ℕ)
     → Stood read done held kept printed
@@ -102,27 +102,32 @@ performs_none held kept source sink out reads sends prints = record {
 
 pub performs_one : (one : Instruction) (old new : Received) (before after : Kept) (source sink out : Change)
     (piece said : List ℕ) (texts : List (List ℕ)) (messages : List Message)
-    → Consumes source.told_before source.told piece → Takes old new piece texts → AreMessages texts messages
+    → Consumes source.told_before source.told piece → Takes old new piece texts → ComesLate old.held piece texts
+    → AreMessages texts messages
     → ((printed : List ℕ) → Does one.act (heard_of before printed) messages (heard_of after (printed ++ said)))
     → Appends sink.told_before sink.told (sent_by one.act) → Appends out.told_before out.told said
     → Performs (one ∷ []) old new before after source sink out
-performs_one one old new before after source sink out piece said texts messages consumed takes are does sends prints =
-    record {
+performs_one one old new before after source sink out piece said texts messages consumed takes late are does sends
+    prints = record {
       piece = piece;
       consumed = consumed;
       said = said;
       sends = subst (Appends sink.told_before sink.told) (sym (append-nil (sent_by one.act))) sends;
       prints = prints;
-      performed = λ read printed done stood. record {
-        texts = stood.texts ++ texts;
-        each = each_append stood.texts texts stood.each takes.each;
-        whole = frames_then read old.held piece new.held stood.texts texts stood.whole takes.whole;
-        place = takes.place stood.texts stood.place;
-        messages = stood.messages ++ messages;
-        are = are_append stood.texts texts stood.messages messages stood.are are;
-        played =
-            played_more done one (heard_of before printed) (heard_of after (printed ++ said)) stood.messages messages
-            stood.played (does printed);
+      performed = λ read printed done before_it. let stood = before_it.stood in record {
+        stood = record {
+          texts = stood.texts ++ texts;
+          each = each_append stood.texts texts stood.each takes.each;
+          whole = frames_then read old.held piece new.held stood.texts texts stood.whole takes.whole;
+          place = takes.place stood.texts stood.place;
+          messages = stood.messages ++ messages;
+          are = are_append stood.texts texts stood.messages messages stood.are are;
+          played =
+              played_more done one (heard_of before printed) (heard_of after (printed ++ said)) stood.messages messages
+              stood.played (does printed);
+        };
+        up_to =
+            up_to_more read piece old.held stood.texts texts stood.each stood.whole before_it.up_to late;
       };
     }
 
@@ -135,7 +140,7 @@ pub performs_quiet : (one : Instruction) (held : Received) (before after : Kept)
 performs_quiet one held before after source sink out reads sends prints nothing does =
     performs_one one held held before after source sink out [] [] [] []
     (subst (λ (t : Option (List ℕ)). Consumes source.told_before t []) reads (Consumes-nil source.told_before))
-    (takes_none held) tt
+    (takes_none held) (inl refl) tt
     (λ printed. subst (λ (l : List ℕ). Does one.act (heard_of before printed) [] (heard_of after l))
     (sym (append-nil printed)) (does printed))
     (subst (λ (l : List ℕ). Appends sink.told_before sink.told l) (sym nothing)
@@ -208,7 +213,8 @@ ends_done script old new before after source sink out performs = λ read told fa
       how = inl (record {
         progress =
             progress_of script script [] (read ++ performs.piece) new after performs.said
-            (sym (append-nil script)) there;
+            (sym (append-nil script)) there.stood;
+        up_to = there.up_to;
         stops = (refl, record { sends = performs.sends; prints = performs.prints });
       });
     }
@@ -285,7 +291,7 @@ module _ (script done more : List Instruction) (one : Instruction) (split : scri
     (s1 : source.told ≡ source_2.told_before) (k1 : sink.told ≡ sink_2.told_before) (o1 : out.told ≡ out_2.told_before)
     (s_later : source.faults_before ≤ source_2.faults_before) (k_later : sink.faults_before ≤ sink_2.faults_before)
     (o_later : out.faults_before ≤ out_2.faults_before)
-    (read : List ℕ) (told : Option (List ℕ)) (faults : ℕ) (stood : Stood read [] old before [])
+    (read : List ℕ) (told : Option (List ℕ)) (faults : ℕ) (stood : StoodUpTo read [] old before [])
     (consumed : Consumes told source.told_before read) (later : faults ≤ source.faults_before) where
   abbrev whole : Change
   whole = record { told_before = told; told = source_2.told; faults_before = faults; faults = source_2.faults }
@@ -310,8 +316,11 @@ module _ (script done more : List Instruction) (one : Instruction) (split : scri
             out_2.faults;
       }
 
+  abbrev behind : StoodUpTo (read ++ performs.piece) done here kept performs.said
+  behind = performs.performed read [] [] stood
+
   abbrev there : Stood (read ++ performs.piece) done here kept performs.said
-  there = performs.performed read [] [] stood
+  there = behind.stood
 
   consumed_here : Consumes told source_2.told_before (read ++ performs.piece)
   consumed_here =
@@ -345,7 +354,7 @@ module _ (script done more : List Instruction) (one : Instruction) (split : scri
     read = read ++ performs.piece;
     consumed =
         subst (λ (t : Option (List ℕ)). Consumes told t (read ++ performs.piece)) (sym kept_source) consumed_here;
-    how = inl (record { progress = progress; stops = by why here_stops });
+    how = inl (record { progress = progress; up_to = behind.up_to; stops = by why here_stops });
   } where
     by : (why : IdeError) → StopsHere why one kept sink_2 out_2 → StopsAt (Err why) progress whole_sink whole_out
     by (Differs line wanted found) s = (

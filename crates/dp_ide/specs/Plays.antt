@@ -1,5 +1,5 @@
 -- What playing a script comes to: how far it was played over the packets read, and why it ended.
-use Rattle.std.specs.Prelude.{◌≡◌, ◌≢◌, ◌⊎◌, ℕ, Bool, true, false, not, List, [], ◌∷◌, ◌++◌, Option, Some, Result, Ok, Err, ⊤}
+use Rattle.std.specs.Prelude.{◌≡◌, ◌≢◌, ◌⊎◌, ℕ, ◌<◌, ◌≤◌, Bool, true, false, not, List, [], ◌∷◌, ◌++◌, length, Option, Some, Result, Ok, Err, ⊤}
 use Rattle.std.specs.List.{list_all}
 use Rattle.std.specs.Io.KnownBytes.{Appends, Consumes, IsAtEnd}
 use Rattle.dp_outside.specs.Causes.{Rose}
@@ -30,6 +30,19 @@ pub record Progress (script : List Instruction) (read : List ℕ) : Type 0 where
   pub are : AreMessages texts messages
   pub heard : Heard
   pub played : Played done messages heard
+
+-- the most bytes that are read at once
+abbrev pub piece_limit : ℕ
+piece_limit = 65536
+
+-- What was read ends with one piece, before which not all of these packets had come: behind the
+-- last of them nothing more is read.
+pub record IsReadUpTo (texts : List (List ℕ)) (read : List ℕ) : Type 0 where
+  pub front : List ℕ
+  pub piece : List ℕ
+  pub whole : read ≡ front ++ piece
+  pub short : length piece ≤ piece_limit
+  pub fewer : length (packets_in front) < length texts
 
 -- this instruction is the next
 pub record Comes {script : List Instruction} {read : List ℕ} (p : Progress script read)
@@ -155,6 +168,7 @@ Lacks other w rest source = ⊥
 pub record EndsPlaying (end : Result (Unit {0}) IdeError) (script : List Instruction)
     (read : List ℕ) (sink out : Change) : Type 0 where
   pub progress : Progress script read
+  pub up_to : IsReadUpTo progress.texts read
   pub stops : StopsAt end progress sink out
 
 pub record EndsWaiting (end : Result (Unit {0}) IdeError) (script : List Instruction)

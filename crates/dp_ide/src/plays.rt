@@ -9,7 +9,7 @@ ghost use Rattle.dp_ide.specs.Messages as spec;
 ghost use Rattle.dp_ide.specs.Plays.{Ends};
 ghost use Rattle.dp_ide.specs.Instructions.{wants};
 ghost use Rattle.dp_ide.specs.inner.Progress.{EndsFrom, OpenFails, PerformFails, ExchangeFails, IsPlayable, Performs};
-ghost use Rattle.dp_ide.specs.inner.Progress.{PrintFails, Refuses, SendFails, Stood, TakesAnswer, printed_line};
+ghost use Rattle.dp_ide.specs.inner.Progress.{PrintFails, Refuses, SendFails, StoodUpTo, TakesAnswer, printed_line};
 
 use crate::contents::{attribute, code_in, content_in, is_init};
 use crate::errors::IdeError;
@@ -210,7 +210,7 @@ fn open<S: Source>(alloc: Global, source: &mut S, packets: &mut Packets) -> Resu
     requires nothing { packets.old.held ≡ [] }
     requires first { packets.old.dropped ≡ 0 }
     ensures ok { IfOk result (λ heard. (read : List ℕ) × Consumes (S.left source.old) (S.left source.new) read
-        × Stood read [] packets.new heard []) }
+        × StoodUpTo read [] packets.new heard []) }
     ensures err { IfErr result (λ why. OpenFails why (change S.left S.faults source.old source.new)) }
     ensures later { S.faults source.old ≤ S.faults source.new }
 {
@@ -249,7 +249,8 @@ fn perform_each<S: Source, K: Sink, O: Sink>(
 /// Plays a script over the link of an engine: its first packet is awaited, then each instruction is played in order.
 ///
 /// Commands are sent on `sink`, each by one put, and what a `print` writes goes to `out`. It reads pieces of at most
-/// 65,536 bytes while a packet is awaited. It waits in the calls of `source`, `sink` and `out` alone.
+/// 65,536 bytes while a packet is awaited, and nothing behind the piece in which the last one came. It waits in the
+/// calls of `source`, `sink` and `out` alone.
 pub fn play<R: Wait + Sync, S: Source, K: Sink, O: Sink>(
     _rt: &R,
     alloc: Global,

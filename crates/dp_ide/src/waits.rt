@@ -49,7 +49,7 @@ fn read_piece<S: Source>(
     requires { 0 < length buffer.old }
     ensures room { length buffer.new ≡ length buffer.old }
     ensures ok { IfOk result (λ count. (piece : List ℕ) × Consumes (S.left source.old) (S.left source.new) piece
-        × HoldsMore packets.old packets.new piece × (count ≡ length piece)) }
+        × HoldsMore packets.old packets.new piece × (count ≡ length piece) × (count ≤ length buffer.old)) }
     ensures end { IfOk result (λ count. count ≡ 0 → IsAtEnd (S.left source.new)) }
     ensures err { IfErr result (λ why. PieceFails why (change S.left S.faults source.old source.new)) }
     ensures kept { OnErr result (packets.new ≡ packets.old) }

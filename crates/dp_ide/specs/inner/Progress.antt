@@ -6,7 +6,7 @@ use Rattle.dp_markup.specs.Texts.{written}
 use Rattle.dp_outside.specs.Causes.{Rose}
 use Rattle.dp_outside.specs.Changes.{Change}
 use Rattle.dp_outside.specs.Streams.{AppendsFront}
-use Rattle.dp_wire.specs.Frames.{BeginsPacket, IsCommand, IsPacketText, IsPartialPacket, command_frame, packet_frame}
+use Rattle.dp_wire.specs.Frames.{BeginsPacket, IsCommand, IsPacketText, IsPartialPacket, command_frame, packet_frame, packets_in}
 use Rattle.dp_wire.specs.Places.{place_behind, IsRefusedAt}
 use Rattle.dp_wire.specs.Received.{Received}
 use Rattle.dp_ide.specs.declared.errors.IdeError.{IdeError}
@@ -17,7 +17,7 @@ use Rattle.dp_ide.specs.declared.heard.Heard.{Heard as Kept}
 use Rattle.dp_ide.specs.declared.heard.Message.{Message}
 use Rattle.dp_ide.specs.Messages.{IsMessage, AreMessages, answers, is_init, output_in}
 use Rattle.dp_ide.specs.Instructions.{Heard, Expectation, Answered, Played, expected, sent}
-use Rattle.dp_ide.specs.Plays.{Ends}
+use Rattle.dp_ide.specs.Plays.{Ends, IsReadUpTo, piece_limit}
 
 -- what the code keeps, with what was printed before
 abbrev pub heard_of : Kept → List ℕ → Heard
@@ -33,6 +33,23 @@ pub record Takes (old new : Received) (piece : List ℕ) (texts : List (List ℕ
   pub each : AllByRecursion IsPacketText texts
   pub place : (before : List (List ℕ)) → old.dropped ≡ place_behind before
       → new.dropped ≡ place_behind (before ++ texts)
+
+-- Behind what was held this came, in pieces, and before the last of them fewer packets stood than
+-- these.
+pub record Late (held piece : List ℕ) (texts : List (List ℕ)) : Type 0 where
+  pub front : List ℕ
+  pub last : List ℕ
+  pub whole : piece ≡ front ++ last
+  pub short : length last ≤ piece_limit
+  pub fewer : length (packets_in (held ++ front)) < length texts
+
+-- nothing came, or no more than these packets wanted
+abbrev pub ComesLate : List ℕ → List ℕ → List (List ℕ) → Type 0
+ComesLate held piece texts = (piece ≡ []) ⊎ Late held piece texts
+
+-- nothing came, or before the last piece no packet stood
+abbrev pub ComesFirst : List ℕ → List ℕ → Type 0
+ComesFirst held piece = (text : List ℕ) → ComesLate held piece (text ∷ [])
 
 -- why no piece follows what is held
 abbrev pub PieceFails : IdeError → Change → Type 0
@@ -52,6 +69,7 @@ pub record HoldsNext (old new : Received) (start end : ℕ) (source : Change)
     : Type 0 where
   pub piece : List ℕ
   pub consumed : Consumes source.told_before source.told piece
+  pub late : ComesFirst old.held piece
   pub more : HoldsMore old new piece
   pub within : (start ≤ end) × (end < length new.held)
   pub begins : BeginsPacket new.held (slice_range new.held start end)
@@ -62,6 +80,7 @@ pub record TakesNext (old new : Received) (source : Change) (message : Message) 
   pub piece : List ℕ
   pub consumed : Consumes source.told_before source.told piece
   pub text : List ℕ
+  pub late : ComesLate old.held piece (text ∷ [])
   pub takes : Takes old new piece (text ∷ [])
   pub is : IsMessage text message
 
@@ -99,6 +118,7 @@ pub record Hears (id : List ℕ) (message : Message) (before after : Kept) (foun
 pub record PassesOver (id : List ℕ) (old new : Received) (before after : Kept) (piece : List ℕ)
     : Type 0 where
   pub texts : List (List ℕ)
+  pub late : ComesLate old.held piece texts
   pub takes : Takes old new piece texts
   pub messages : List Message
   pub are : AreMessages texts messages
@@ -113,6 +133,7 @@ pub record TakesAnswer (id : List ℕ) (before after : Kept) (old new : Received
   pub piece : List ℕ
   pub consumed : Consumes source.told_before source.told piece
   pub texts : List (List ℕ)
+  pub late : ComesLate old.held piece texts
   pub takes : Takes old new piece texts
   pub messages : List Message
   pub are : AreMessages texts messages
@@ -179,6 +200,12 @@ pub record Stood (read : List ℕ) (done : List Instruction) (held : Received) (
   pub are : AreMessages texts messages
   pub played : Played done messages (heard_of kept printed)
 
+-- and nothing was read behind the piece in which the last of these packets came
+pub record StoodUpTo (read : List ℕ) (done : List Instruction) (held : Received) (kept : Kept)
+    (printed : List ℕ) : Type 0 where
+  pub stood : Stood read done held kept printed
+  pub up_to : IsReadUpTo stood.texts read
+
 -- Wherever the player stood before, it has played these instructions after it, over the piece that
 -- came; their commands were sent, and what they print was printed.
 pub record Performs (ones : List Instruction) (old new : Received) (before after : Kept)
@@ -189,8 +216,8 @@ pub record Performs (ones : List Instruction) (old new : Received) (before after
   pub sends : Appends sink.told_before sink.told (sent ones)
   pub prints : Appends out.told_before out.told said
   pub performed : (read printed : List ℕ) (done : List Instruction)
-      → Stood read done old before printed
-      → Stood (read ++ piece) (done ++ ones) new after (printed ++ said)
+      → StoodUpTo read done old before printed
+      → StoodUpTo (read ++ piece) (done ++ ones) new after (printed ++ said)
 
 -- what it sends is a command
 abbrev pub IsPlayable : Instruction → Type 0
@@ -232,7 +259,7 @@ PerformFails why one old before source sink out =
 abbrev pub EndsFrom : List Instruction → Received → Kept → Result (Unit {0}) IdeError → Change
     → Change → Change → Type 0
 EndsFrom script held kept end source sink out =
-    (read : List ℕ) (told : Option (List ℕ)) (faults : ℕ) → Stood read [] held kept []
+    (read : List ℕ) (told : Option (List ℕ)) (faults : ℕ) → StoodUpTo read [] held kept []
     → Consumes told source.told_before read → faults ≤ source.faults_before
     → Ends script end (record source { told_before = told; faults_before = faults }) sink out
 

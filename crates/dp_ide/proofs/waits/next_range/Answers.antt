@@ -1,8 +1,9 @@
-use Rattle.std.proofs.Common.{rules, ◌∙◌, inr, ap, refl, Ok}
+use Rattle.std.proofs.Common.{rules, ◌++◌, ◌∙◌, inr, ap, append_assoc, arith, refl, Ok}
+use Rattle.std.proofs.KnownBytes.{Consumes-trans}
 use Rattle.dp_outside.specs.Changes.{change}
 use Rattle.dp_wire.specs.Frames.{IsPartialPacket}
 use Rattle.dp_wire.specs.Places.{refused_at}
-use Rattle.dp_ide.proofs.AwaitLaws.{piece_failed, refused_next}
+use Rattle.dp_ide.proofs.AwaitLaws.{first_late, piece_failed, refused_next}
 use Rattle.dp_ide.proofs.waits.next_range.Goals as goal
 
 pub returns-in-Err-clause-err : goal.returns-in-Err-clause-err
@@ -25,3 +26,21 @@ returns-in-Err-read_piece-clause-err g c =
     (change g.S.Source.left g.S.Source.faults c.pieces.source c.read_piece.new.source)
     (change g.S.Source.left g.S.Source.faults c.args.source.now c.read_piece.new.source)
     here.2 here.1 c.pieces.invariant.0 refl refl partial c.in-Err-read_piece.ensures.err
+
+pub pieces-preserved : goal.pieces-preserved
+pieces-preserved g c =
+    let before = c.pieces.invariant.1 in
+    let more = c.in-Ok.ensures.ok in (
+      omega (arith, c.pieces.invariant.0, c.read_piece.ensures.later),
+      (
+        before.0 ++ more.0,
+        Consumes-trans _ _ _ before.0 more.0 before.1 more.1,
+        record {
+          held =
+              more.2.held ∙ ap (λ l. l ++ more.0) before.2.held ∙ append_assoc c.args.packets.now.held before.0 more.0;
+          dropped = more.2.dropped ∙ before.2.dropped;
+        },
+        first_late c.args.packets.now c.pieces.packets before.0 more.0 before.2
+            (c.next.ensures.none (c.in-Ok-None.is ∙ ap Ok c.in-Ok-None.field-0-is)) (omega (arith, more.3, more.4)),
+      ),
+    )
