@@ -6,3 +6,4 @@ pub mod Texts
 pub mod EntryReads
 pub mod PureParts
 pub mod ObservedValues
+pub mod MissingPlaces

@@ -7,9 +7,10 @@ use Rattle.dp_value.specs.declared.errors.ValueError.TheVariants as value
 use Rattle.dp_value.specs.declared.errors.WriteError.{WriteError}
 use Rattle.dp_value.specs.declared.errors.WriteError.TheVariants as write
 use Rattle.dp_value.specs.declared.value.Value.{Value}
-use Rattle.dp_value.specs.Data.{Data}
+use Rattle.dp_value.specs.Data.{Data, null, boolean, integer, text, array}
 use Rattle.dp_value.specs.Entry.{IsCause as IsWriteCause}
-use Rattle.dp_value.specs.Value.{data_of}
+use Rattle.dp_value.specs.Value.{data_of, value_of}
+use Rattle.dp_operations.specs.Builtins.{is_null}
 use Rattle.dp_state.proofs.ValueLemmas.{value_of-data_of}
 use Rattle.dp_operations.specs.Answers.{Answers, Gives}
 use Rattle.dp_state.specs.declared.moments.FatalKind.{FatalKind}
@@ -24,6 +25,7 @@ use Rattle.dp_value.specs.declared.key.Key.{Key}
 use Rattle.dp_actions.specs.declared.halt.Halt.{Halt}
 use Rattle.dp_actions.specs.Loops.{bind, bind_key, bind_name}
 use Rattle.dp_actions.specs.AtOnce.{AtOnce, halt_of, settled_of}
+use Rattle.dp_actions.specs.inner.Missing.{missing_in}
 use Rattle.dp_actions.specs.Run.{Done, and_then, fatal, taken}
 use Rattle.dp_actions.specs.Values.{builtin_run, holds, is_missing, value_run, write_run, kept_of, present_of}
 use Rattle.dp_actions.proofs.AtOnceLaws.{gives, ends, wants_memory, breaks_off, goes_on}
@@ -43,6 +45,29 @@ module _ (s : State) where
   value-err table value.Unsupported (inr e) = rw e ends
   value-err table value.TooHeavy (inr e) = rw e ends
   value-err table value.Memory (inr e) = wants_memory
+
+  missing-is : (d : Data) → is_missing (value_of d) ≡ is_null d
+  missing-is null = refl
+  missing-is (boolean b) = refl
+  missing-is (integer n) = refl
+  missing-is (text bytes) = refl
+  missing-is (array es largest) = refl
+
+  pub missing-ok : (table : Result Data ValueError) (missing : Bool) → missing_in table ≡ Ok missing
+      → AtOnce (and_then (value_run table s) (λ v t. Done (is_missing v) t)) (Ok missing) s
+  unfolding and_then
+  missing-ok (Ok d) missing e =
+      let same : is_null d ≡ missing = cc in
+      subst (λ (b : Bool). AtOnce (Done b s) (Ok missing) s) (sym (missing-is d ∙ same)) gives
+  missing-ok (Err why) missing e = absurd cc
+
+  pub missing-err : (table : Result Data ValueError) (why : ValueError)
+      → (why ≡ value.Memory) ⊎ (missing_in table ≡ Err why)
+      → AtOnce (and_then (value_run table s) (λ v t. Done (is_missing v) t)) (Err (halt_of (fault_of_value why) s)) s
+  missing-err table why (inl e) = rw e wants_memory
+  missing-err (Ok d) why (inr e) = absurd cc
+  missing-err (Err other) why (inr e) =
+      let same : other ≡ why = cc in breaks_off _ (value-err (Err other) why (inr (ap Err same)))
 
   pub builtin-ok : (table : Result Data CallError) (v : Value) → table ≡ Ok (data_of v)
       → AtOnce (builtin_run table s) (Ok v) s
@@ -98,6 +123,10 @@ gives-answers (Err e) table h = inr h
 pub entry-is : {X Y : Type 0} (f : X → Y) (r : Option X) (o : Option Y) (x : X) (y : Y) → option_map f r ≡ o
     → r ≡ Some x → o ≡ Some y → f x ≡ y
 entry-is f r o x y h is found = let e : Some (f x) ≡ Some y = sym (ap (option_map f) is) ∙ h ∙ found in cc
+
+pub entry-past : {X Y : Type 0} (f : X → Y) (r : Option X) (o : Option Y) (x : X) → option_map f r ≡ o → r ≡ Some x
+    → o ≡ None → ⊥
+entry-past f r o x h is none = let e : Some (f x) ≡ None = sym (ap (option_map f) is) ∙ h ∙ none in absurd (cc)
 
 module _ (binding : Binding) (key : Key) (v : Value) (entry : Key × Data) (same : (key, data_of v) ≡ entry)
     (s t : State) where

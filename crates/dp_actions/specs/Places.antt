@@ -109,9 +109,14 @@ abbrev pub step : UnaryOp → Order → PlaceRun → Part Value
 step op order place setting s =
     place.indices setting s >>= λ indices t. step_under op order place.name indices t
 
--- a place as isset finds it
-abbrev pub found_at : PlaceRun → Part Value
-found_at place setting s = place.indices setting s >>= λ indices t. found_run place.name indices t
+-- whether isset finds nothing under these indices, or null
+abbrev pub missing_run : List ℕ → List Value → State → Run Bool
+missing_run name indices s = found_run name indices s >>= λ v t. Done (is_missing v) t
+
+-- the same of a place
+abbrev pub missing_at : PlaceRun → Part Bool
+missing_at place setting s =
+    place.indices setting s >>= λ indices t. missing_run place.name indices t
 
 -- `isset`: each place in order, up to the first that is missing or null
 abbrev pub isset_run : List PlaceRun → Part Value

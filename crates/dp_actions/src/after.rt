@@ -8,7 +8,7 @@ ghost use Rattle.dp_operations.specs.Unary.{unary_of};
 ghost use Rattle.dp_actions.specs.declared.signal.Signal.TheVariants as way;
 ghost use Rattle.dp_actions.specs.After.{Then};
 ghost use Rattle.dp_actions.specs.Effects.{exit_run, print_run};
-ghost use Rattle.dp_actions.specs.Places.{assign_run, combined, found_run, step_under};
+ghost use Rattle.dp_actions.specs.Places.{assign_run, combined, missing_run, step_under};
 ghost use Rattle.dp_actions.specs.Run.{Done};
 ghost use Rattle.dp_actions.specs.Values.{holds, value_run};
 
@@ -16,7 +16,7 @@ use crate::answers::{exit_value, print_value, value_of};
 use crate::changes::{combine, step_place};
 use crate::halt::Halt;
 use crate::joins::operated;
-use crate::places::{assign_place, found_place};
+use crate::places::{assign_place, is_missing_place};
 use crate::signal::Signal;
 use dp_operations::unary;
 use dp_shared::Shared;
@@ -154,18 +154,18 @@ pub fn then_signal(done: Result<(), Halt>, signal: Signal) -> Result<Signal, Hal
     }
 }
 
-/// The value of a place as isset finds it.
-pub fn then_found(
+/// Whether isset finds nothing at a place, or null.
+pub fn then_missing(
     alloc: Global,
     name: &Bytes,
     indices: Result<Items<Shared>, Halt>,
     state: &State,
-) -> Result<Shared, Halt>
-    ensures { Then indices (λ values s. found_run name.now values s) state.now result state.now }
+) -> Result<bool, Halt>
+    ensures { Then indices (λ values s. missing_run name.now values s) state.now result state.now }
 {
     match indices {
         Ok(indices) => {
-            let answer = found_place(alloc, name, indices.as_slice(), state);
+            let answer = is_missing_place(alloc, name, indices.as_slice(), state);
             drop(indices);
             answer
         }

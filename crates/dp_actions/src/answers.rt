@@ -8,7 +8,9 @@ ghost use Rattle.dp_operations.specs.Answers.{Answers};
 ghost use Rattle.dp_operations.specs.Builtins.{CallAnswers};
 ghost use Rattle.dp_actions.specs.AtOnce.{AtOnce};
 ghost use Rattle.dp_actions.specs.Effects.{exit_run, print_run, status_of};
+ghost use Rattle.dp_actions.specs.Run.{Done, and_then};
 ghost use Rattle.dp_actions.specs.Values.{builtin_run, is_missing as missing, value_run};
+ghost use Rattle.dp_actions.specs.inner.Missing.{AnswersMissing};
 
 use crate::faults::{fatal, fault, settled};
 use crate::halt::Halt;
@@ -26,6 +28,17 @@ pub fn value_of(answer: Result<Value, ValueError>, state: &State) -> Result<Shar
 {
     match answer {
         Ok(value) => Ok(Shared::of(value)),
+        Err(why) => Err(fault(Fault::from(why), state)),
+    }
+}
+
+/// Whether a value is missing, by what was looked up.
+pub(crate) fn missing_of(answer: Result<bool, ValueError>, state: &State) -> Result<bool, Halt>
+    ensures { (table : Result Data Refusal) → AnswersMissing answer table
+        → AtOnce (and_then (value_run table state.now) (λ v t. Done (missing v) t)) result state.now }
+{
+    match answer {
+        Ok(missing) => Ok(missing),
         Err(why) => Err(fault(Fault::from(why), state)),
     }
 }

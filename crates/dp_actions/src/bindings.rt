@@ -1,6 +1,6 @@
 //! The binding of names: those of a `foreach`, and those of a `global`.
 
-ghost use Rattle.std.specs.Prelude.{◌≡◌, Some, slice_get};
+ghost use Rattle.std.specs.Prelude.{◌≡◌, None, Some, slice_get, IsOk};
 ghost use Rattle.dp_value.specs.declared.key.Key.{Key as EntryKey};
 ghost use Rattle.dp_value.specs.Data.{Data};
 ghost use Rattle.dp_actions.specs.AtOnce.{AtOnce};
@@ -15,15 +15,16 @@ use dp_state::State;
 use dp_tree::Binding;
 use dp_value::{Bytes, Key, PhpArray, Value};
 
-/// Binds the entry at a position: its value, then its key.
+/// Binds the entry at a position: its value, then its key. Where there is none it does nothing.
 pub fn bind_entry(
     binding: &Binding,
     array: &PhpArray,
     at: usize,
     state: &mut State,
 ) -> Result<(), Halt>
-    ensures { (entry : EntryKey × Data) → slice_get array.now.pairs at ≡ Some entry
+    ensures entry { (entry : EntryKey × Data) → slice_get array.now.pairs at ≡ Some entry
         → AtOnce (bind binding.now entry state.old) result state.new }
+    ensures past { slice_get array.now.pairs at ≡ None → IsOk result × (state.new ≡ state.old) }
 {
     match array.pair(at) {
         None => Ok(()),

@@ -4,12 +4,13 @@ ghost use Rattle.std.specs.Prelude.{◌≡◌, map, IfOk};
 ghost use Rattle.dp_value.specs.Value.{data_of};
 ghost use Rattle.dp_operations.specs.Answers.{Answers};
 ghost use Rattle.dp_operations.specs.Builtins.{builtin_of};
-ghost use Rattle.dp_operations.specs.Indices.{read_by as read_under, reading as reading_of};
+ghost use Rattle.dp_operations.specs.Indices.{found_by, read_by as read_under, reading as reading_of};
 ghost use Rattle.dp_actions.specs.AtOnce.{AtOnce};
 ghost use Rattle.dp_actions.specs.InPlace.{entries_by};
+ghost use Rattle.dp_actions.specs.inner.Missing.{AnswersMissing};
 ghost use Rattle.dp_actions.specs.Values.{builtin_run};
 
-use crate::answers::builtin_value;
+use crate::answers::{builtin_value, is_missing};
 use crate::halt::Halt;
 use dp_operations::{Found, builtin, copy, find, index, under};
 use dp_shared::Shared;
@@ -61,6 +62,27 @@ pub fn entry_by(
         Ok(found) => {
             let value = copy(alloc, found)?;
             entry_by(alloc, reading, &value, rest)
+        }
+        Err(why) => Err(why),
+    }
+}
+
+/// Whether isset finds nothing under indices, or null. Nothing of what it finds is copied, but a byte of a text.
+pub(crate) fn is_missing_by(
+    alloc: Global,
+    holder: &Value,
+    indices: &[Shared],
+) -> Result<bool, ValueError>
+    ensures { AnswersMissing result (found_by (map data_of indices.now) (data_of holder.now)) }
+{
+    let Some((index, rest)) = indices.split_first() else {
+        return Ok(is_missing(holder));
+    };
+    match under(alloc, holder, index.value(), false) {
+        Ok(Found::Entry(value)) => is_missing_by(alloc, value, rest),
+        Ok(found) => {
+            let value = copy(alloc, found)?;
+            is_missing_by(alloc, &value, rest)
         }
         Err(why) => Err(why),
     }

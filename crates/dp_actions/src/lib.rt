@@ -25,7 +25,7 @@ mod signal;
 mod turns;
 
 pub use after::{
-    then_assign, then_binary, then_combine, then_exit, then_found, then_holds, then_next,
+    then_assign, then_binary, then_combine, then_exit, then_holds, then_missing, then_next,
     then_print, then_return, then_signal, then_step, then_truth, then_unary,
 };
 pub use answers::{builtin_value, exit_value, is_missing, print_value, value_of};
@@ -43,8 +43,8 @@ pub use joins::operated;
 pub use observer::observe;
 pub use operands::{holds, kept, present, text_value, variable_value};
 pub use places::{
-    assign_place, assign_variable, found_place, given_keys, key_at, read_place, unset_place,
-    variable,
+    assign_place, assign_variable, found_place, given_keys, is_missing_place, key_at, read_place,
+    unset_place, variable,
 };
 pub use signal::Signal;
 pub use turns::{LoopStep, after_body, last_holds};

@@ -2,8 +2,7 @@
 
 #![tactic(auto, using(crate::proofs::AtOnceLaws::acting))]
 
-use crate::after::then_found;
-use crate::answers::is_missing;
+use crate::after::then_missing;
 use crate::entry_reads::Reading;
 use crate::halt::Halt;
 use crate::inside::then_inside;
@@ -20,7 +19,7 @@ impl Observer<'_> {
     ghost use Rattle.dp_actions.specs.Expressions.{expression_run, indices_run, place_run};
     ghost use Rattle.dp_actions.specs.InPlace.{entries_by};
     ghost use Rattle.dp_actions.specs.Observed.{Observed};
-    ghost use Rattle.dp_actions.specs.Places.{found_at, isset_run};
+    ghost use Rattle.dp_actions.specs.Places.{isset_run, missing_at};
     ghost use Rattle.dp_actions.specs.inner.Bases.{base_run, entry_under};
 
     /// The value of an expression under indices.
@@ -74,9 +73,7 @@ impl Observer<'_> {
         ensures { Observed (isset_run (map place_run places.now)) result self.now.state.now }
     {
         for place in places {
-            let found = self.found_at(place)?;
-            let missing = is_missing(found.value());
-            drop(found);
+            let missing = self.missing_at(place)?;
             if missing {
                 return Ok(Shared::of(Value::Bool(false)));
             }
@@ -84,13 +81,13 @@ impl Observer<'_> {
         Ok(Shared::of(Value::Bool(true)))
     }
 
-    /// The value of a place as isset finds it.
+    /// Whether isset finds nothing at a place, or null.
     #[cycle(observe)]
-    fn found_at(&self, place: &Place) -> Result<Shared, Halt>
+    fn missing_at(&self, place: &Place) -> Result<bool, Halt>
         requires { place_is_pure place.now ≡ true }
-        ensures { Observed (found_at (place_run place.now)) result self.now.state.now }
+        ensures { Observed (missing_at (place_run place.now)) result self.now.state.now }
     {
-        then_found(
+        then_missing(
             self.alloc,
             &place.name,
             self.values(place.indices.as_slice()),

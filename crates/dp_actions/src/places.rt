@@ -5,7 +5,7 @@ ghost use Rattle.dp_value.specs.KeyOf.{key_of_data};
 ghost use Rattle.dp_value.specs.Value.{data_of};
 ghost use Rattle.dp_state.specs.Places.{assigned, given_keys as all_given, keys_of_indices, unset};
 ghost use Rattle.dp_actions.specs.AtOnce.{AtOnce};
-ghost use Rattle.dp_actions.specs.Places.{assign_run, found_run, read_run, variable as value_named};
+ghost use Rattle.dp_actions.specs.Places.{assign_run, found_run, missing_run, read_run, variable as value_named};
 ghost use Rattle.dp_actions.specs.inner.Keyed.{keyed_write};
 ghost use Rattle.dp_operations.specs.Indices.{read_by as read_under};
 ghost use Rattle.dp_actions.specs.InPlace.{entries_by};
@@ -13,8 +13,8 @@ ghost use Rattle.dp_actions.specs.Loops.{bind_name};
 ghost use Rattle.dp_actions.specs.Values.{value_run};
 ghost use Rattle.dp_actions.specs.Run.{taken};
 
-use crate::answers::value_of;
-use crate::entry_reads::{Reading, entry_by};
+use crate::answers::{missing_of, value_of};
+use crate::entry_reads::{Reading, entry_by, is_missing_by};
 use crate::faults::settled;
 use crate::halt::Halt;
 use crate::operands::variable_value;
@@ -55,6 +55,21 @@ pub fn found_place(
     ensures { AtOnce (found_run name.now indices.now state.now) result state.now }
 {
     place_by(alloc, Reading::Found, name, indices, state)
+}
+
+/// Whether isset finds nothing at a place, or null. Copies nothing of what it finds.
+pub fn is_missing_place(
+    alloc: Global,
+    name: &Bytes,
+    indices: &[Shared],
+    state: &State,
+) -> Result<bool, Halt>
+    ensures { AtOnce (missing_run name.now indices.now state.now) result state.now }
+{
+    match state.read(name) {
+        Some(value) => missing_of(is_missing_by(alloc, value.value(), indices), state),
+        None => missing_of(is_missing_by(alloc, &Value::Null, indices), state),
+    }
 }
 
 /// The value of a place by a reading. A whole variable is not copied, nor what stands on the way to an entry.

@@ -1,14 +1,16 @@
 -- Lists of parts, one element after another.
-use Rattle.std.proofs.Common.{◌≡◌, ℕ, zero, suc, ◌+◌, ◌<◌, List, [], ◌∷◌, ◌++◌, length, get_or, drop, drop-cons, add-one, Some, slice_get, arith, Result, Ok, Err, refl, sym, ap, ◌∙◌, subst, append_assoc, append-nil}
+use Rattle.std.proofs.Common.{◌≡◌, Bool, ℕ, zero, suc, ◌+◌, ◌<◌, List, [], ◌∷◌, ◌++◌, length, get_or, drop, drop-cons, add-one, Some, slice_get, arith, Result, Ok, Err, refl, sym, ap, ◌∙◌, subst, append_assoc, append-nil}
 use Rattle.dp_state.specs.declared.state.State.{State}
 use Rattle.dp_tree.specs.declared.tree.Expression.{Expression}
 use Rattle.dp_value.specs.declared.value.Value.{Value}
 use Rattle.dp_actions.specs.declared.halt.Halt.{Halt}
 use Rattle.dp_meaning.specs.inner.Drive.{Rules, Evaluates}
 use Rattle.dp_actions.specs.Expressions.{evaluation, evaluations}
+use Rattle.dp_actions.specs.Places.{PlaceRun, isset_run, missing_at, missing_run}
 use Rattle.dp_actions.specs.Run.{Run, Done, and_then}
 use Rattle.dp_actions.specs.Setting.{Setting}
-use Rattle.dp_meaning.proofs.Drives.{gives, breaks_off, goes_on}
+use Rattle.dp_meaning.proofs.Drives.{gives, breaks_off, goes_on, joined_off, joined_on}
+use Rattle.dp_actions.proofs.MissingPlaces.{isset-on, isset-place}
 use Rattle.dp_actions.proofs.Runs.{and_then-assoc, and_then-Done}
 
 -- the elements from one on
@@ -60,3 +62,20 @@ module _ (rules : Rules) (setting : Setting) where
         subst (λ r. Evaluates rules r x u) (sym (and_then-assoc (evaluation e setting s) _
         (λ values w. Done (done ++ values) w)))
         (goes_on _ ev (subst (λ r. Evaluates rules r x u) (sym (joined v t)) more))
+
+-- ---- isset, by whether its first place is missing
+
+module _ {rules : Rules} (place : PlaceRun) (places : List PlaceRun) (setting : Setting) where
+  pub place_off : (s : State) {h : Halt} {t : State} → Evaluates rules (missing_at place setting s) (Err h) t
+      → Evaluates rules (isset_run (place ∷ places) setting s) (Err h) t
+  place_off s {h} {t} e =
+      subst (λ z. Evaluates rules z (Err h) t) (sym (isset-place place places setting s)) (joined_off
+      (place.indices setting s) (λ indices u. missing_run place.name indices u) (isset-on place places setting) e)
+
+  pub place_on : (s : State) {missing : Bool} {t u : State} {x : Result Value Halt}
+      → Evaluates rules (missing_at place setting s) (Ok missing) t
+      → Evaluates rules (isset-on place places setting missing t) x u
+      → Evaluates rules (isset_run (place ∷ places) setting s) x u
+  place_on s {missing} {t} {u} {x} e k =
+      subst (λ z. Evaluates rules z x u) (sym (isset-place place places setting s)) (joined_on
+      (place.indices setting s) (λ indices u. missing_run place.name indices u) (isset-on place places setting) e k)

@@ -5,8 +5,7 @@
 use crate::evaluator::Evaluator;
 use crate::outside::Outside;
 use dp_actions::{
-    Halt, found_place, is_missing, present, read_place, then_assign, then_combine, then_found,
-    then_step,
+    Halt, found_place, present, read_place, then_assign, then_combine, then_missing, then_step,
 };
 use dp_shared::Shared;
 use dp_state::State;
@@ -19,7 +18,7 @@ impl<O: Outside> Evaluator<'_, O> {
     ghost use Rattle.dp_meaning.specs.inner.Evaluation.{goes_by};
     ghost use Rattle.dp_actions.specs.Expressions.{evaluation, place_run};
     ghost use Rattle.dp_actions.specs.Places.{assignment, coalescing, coalescing_under, compound, compound_under};
-    ghost use Rattle.dp_actions.specs.Places.{found_at, isset_run, step};
+    ghost use Rattle.dp_actions.specs.Places.{isset_run, missing_at, step};
 
     /// `place = right`, or `place[] = right`
     #[cycle(evaluate)]
@@ -148,9 +147,7 @@ impl<O: Outside> Evaluator<'_, O> {
             (goes_by self.now) state.old) result state.new }
     {
         for place in places {
-            let found = self.found_at(place, state)?;
-            let missing = is_missing(found.value());
-            drop(found);
+            let missing = self.missing_at(place, state)?;
             if missing {
                 return Ok(Shared::of(Value::Bool(false)));
             }
@@ -158,13 +155,13 @@ impl<O: Outside> Evaluator<'_, O> {
         Ok(Shared::of(Value::Bool(true)))
     }
 
-    /// The value of a place as isset finds it.
+    /// Whether isset finds nothing at a place, or null.
     #[cycle(evaluate)]
-    fn found_at(&self, place: &Place, state: &mut State) -> Result<Shared, Halt>
-        ensures { Evaluates (O.rules self.now.outside.now) (found_at (place_run place.now)
+    fn missing_at(&self, place: &Place, state: &mut State) -> Result<bool, Halt>
+        ensures { Evaluates (O.rules self.now.outside.now) (missing_at (place_run place.now)
             (goes_by self.now) state.old) result state.new }
     {
-        then_found(
+        then_missing(
             self.alloc,
             &place.name,
             self.values(place.indices.as_slice(), state),

@@ -1,6 +1,6 @@
 //! The moments of a run.
 
-ghost use Rattle.std.specs.Prelude.{◌≡◌, IfOk};
+ghost use Rattle.std.specs.Prelude.{◌≡◌, ◌^◌, ◌≤◌, ◌⊎◌, length, IfOk, IsSome, OnErr};
 ghost use Rattle.dp_meaning.specs.Trace.{function_called, function_of as name_of, moment_of as moment_at};
 
 use dp_state::{FrameKind, Moment, MomentKind, State};
@@ -9,7 +9,8 @@ use dp_value::{Bytes, Memory};
 /// The moment that has come in a state. Memory is taken for the name of the function that is entered or left; `Memory`
 /// is answered also if the frames cannot be counted in 32 bits.
 pub fn moment_of(kind: MomentKind, state: &State) -> Result<Moment, Memory>
-    ensures { IfOk result (λ moment. moment ≡ moment_at kind state.now) }
+    ensures moment { IfOk result (λ moment. moment ≡ moment_at kind state.now) }
+    ensures memory { OnErr result (IsSome (name_of kind state.now) ⊎ (2 ^ 32 ≤ length state.now.frames)) }
 {
     let Ok(depth) = u32::try_from(state.frames.len()) else {
         return Err(Memory);
@@ -26,7 +27,8 @@ pub fn moment_of(kind: MomentKind, state: &State) -> Result<Moment, Memory>
 
 /// The function that is entered or left.
 fn function_of(kind: MomentKind, state: &State) -> Result<Option<Bytes>, Memory>
-    ensures { IfOk result (λ name. name ≡ name_of kind state.now) }
+    ensures name { IfOk result (λ name. name ≡ name_of kind state.now) }
+    ensures memory { OnErr result (IsSome (name_of kind state.now)) }
 {
     match kind {
         MomentKind::Place => Ok(None),
@@ -37,7 +39,8 @@ fn function_of(kind: MomentKind, state: &State) -> Result<Option<Bytes>, Memory>
 
 /// The name of the function of the top frame.
 fn called(state: &State) -> Result<Option<Bytes>, Memory>
-    ensures { IfOk result (λ name. name ≡ function_called state.now) }
+    ensures name { IfOk result (λ name. name ≡ function_called state.now) }
+    ensures memory { OnErr result (IsSome (function_called state.now)) }
 {
     match state.frames.as_slice().last() {
         None => Ok(None),

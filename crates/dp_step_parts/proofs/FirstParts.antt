@@ -18,7 +18,8 @@ use Rattle.dp_state.specs.declared.state.State.{State}
 use Rattle.dp_actions.specs.declared.signal.Signal.{Signal}
 use Rattle.dp_actions.specs.Expressions.{evaluation, evaluations, expression_run, indices_run, items_run, keyed_run, links_run, operator_run, place_run}
 use Rattle.dp_actions.specs.Expressions.{item_run_of, link_run}
-use Rattle.dp_actions.specs.Places.{PlaceRun, found_run, isset_run}
+use Rattle.dp_actions.specs.Places.{PlaceRun, found_run, isset_run, missing_run}
+use Rattle.dp_actions.proofs.MissingPlaces.{missing-then}
 use Rattle.dp_actions.specs.Run.{Run, Done, and_then, ◌>>=◌}
 use Rattle.dp_actions.specs.Setting.{Setting}
 use Rattle.dp_actions.specs.Values.{holds, is_missing, value_run, write_run}
@@ -163,9 +164,13 @@ module _ (setting : Setting) (k : Follows) (s : State) where
   -- ---- places
 
   module _ (name : List ℕ) (rest : List Place) where
+    abbrev isset-on : Bool → State → Run Signal
+    isset-on missing u =
+        if missing then to_value k (value.Bool false) u else isset_run (map place_run rest) setting u >>= to_value k
+
     isset-if : (b : Bool) (u : State)
         → ((if b then Done (value.Bool false) u else isset_run (map place_run rest) setting u) >>= to_value k)
-        ≡ (if b then to_value k (value.Bool false) u else isset_run (map place_run rest) setting u >>= to_value k)
+        ≡ isset-on b u
     unfolding and_then
     isset-if true u = refl
     isset-if false u = refl
@@ -173,15 +178,15 @@ module _ (setting : Setting) (k : Follows) (s : State) where
     isset-rest : (indices : List Value) (t : State)
         → ((found_run name indices t >>= λ v u. if is_missing v then Done (value.Bool false) u
         else isset_run (map place_run rest) setting u) >>= to_value k)
-        ≡ (found_run name indices t >>= λ v u.
-        if is_missing v then to_value k (value.Bool false) u
-        else isset_run (map place_run rest) setting u >>= to_value k)
-    isset-rest indices t = and_then-assoc _ _ _ ∙ (λ i. found_run name indices t >>= λ v u. isset-if (is_missing v) u i)
+        ≡ (missing_run name indices t >>= isset-on)
+    isset-rest indices t =
+        and_then-assoc _ _ _ ∙ (λ i. found_run name indices t >>= λ v u. isset-if (is_missing v) u i) ∙ sym
+        (missing-then name indices isset-on t)
 
   pub isset-first : (first : Place) (rest : List Place)
       → (isset_run (map place_run (first ∷ rest)) setting s >>= to_value k)
-      ≡ (evaluations first.indices setting s >>= λ indices t. found_run first.name indices t >>= λ v u.
-      if is_missing v then to_value k (value.Bool false) u else isset_run (map place_run rest) setting u >>= to_value k)
+      ≡ (evaluations first.indices setting s >>= λ indices t. missing_run first.name indices t >>= λ missing u.
+      if missing then to_value k (value.Bool false) u else isset_run (map place_run rest) setting u >>= to_value k)
   isset-first first rest =
       ap (λ (place : PlaceRun). isset_run (place ∷ map place_run rest) setting s >>= to_value k) (run-place first)
       ∙ and_then-assoc _ _ _

@@ -21,7 +21,7 @@ use Rattle.dp_actions.specs.Expressions.{choice, evaluation, evaluations, expres
 use Rattle.dp_actions.specs.Expressions.{indices_run, items_run, keyed_run, links_run, place_run}
 use Rattle.dp_actions.specs.Expressions.{item_run_of, link_run}
 use Rattle.dp_actions.specs.Places.{assign_run, assigned_under, coalescing_under, combined}
-use Rattle.dp_actions.specs.Places.{compound_under, found_run, isset_run, step_under}
+use Rattle.dp_actions.specs.Places.{compound_under, isset_run, missing_run, step_under}
 use Rattle.dp_actions.specs.Run.{Run, ◌>>=◌}
 use Rattle.dp_actions.specs.Setting.{Setting}
 use Rattle.dp_actions.specs.InPlace.{entries_by}
@@ -150,8 +150,8 @@ values_rest setting (values_work.CoalesceAssign name right) indices k s =
 values_rest setting (values_work.Step op order name) indices k s =
     step_under op order name.now indices s >>= to_value k
 values_rest setting (values_work.Isset name places) indices k s =
-    found_run name.now indices s >>= λ v t.
-    if is_missing v then to_value k (value.Bool false) t else isset_after setting places.now k t
+    missing_run name.now indices s >>= λ missing t.
+    if missing then to_value k (value.Bool false) t else isset_after setting places.now k t
 
 -- It waits for one kind of thing; what is of another kind it passes on.
 abbrev pub work_rest : Setting → Work → Follows → Follows

@@ -20,7 +20,7 @@ use crate::next::{give, given, lengthened, linked, read_under};
 use crate::work::{ForPart, ForValue, ForValues, Hand, Next, Work};
 use dp_actions::{
     Halt, Reading, assign_place, builtin_call, combine, found_place, holds, inside_at, is_missing,
-    operated, present, pushed, put, read_place, step_place, value_of,
+    is_missing_place, operated, present, pushed, put, read_place, step_place, value_of,
 };
 use dp_operations::unary;
 use dp_shared::{Inside, Shared};
@@ -438,23 +438,21 @@ fn isset_place<'p>(
         (any_values.Isset name.entry rest.entry) indices k state.now) result
         state.now }
 {
-    let found = found_place(alloc, name, indices.as_slice(), state);
+    let absent = is_missing_place(alloc, name, indices.as_slice(), state);
     drop(indices);
-    match found {
-        Ok(found) => Ok(isset_found(found, rest)),
+    match absent {
+        Ok(absent) => Ok(isset_on(absent, rest)),
         Err(why) => Err(why),
     }
 }
 
-/// The value of a place of an `isset` was found.
-fn isset_found<'p>(found: Shared, rest: &'p [Place]) -> Next<'p>
+/// On with an `isset`, whose place before was absent or null, or not.
+fn isset_on<'p>(absent: bool, rest: &'p [Place]) -> Next<'p>
     ensures { (setting : Setting) (k : Follows) (s : AnyState)
-        → next_rest setting result k s ≡ if missing found then to_value k (any_kind.Bool false) s
+        → next_rest setting result k s ≡ if absent then to_value k (any_kind.Bool false) s
         else isset_after setting rest.now k s }
 {
-    let missing = is_missing(found.value());
-    drop(found);
-    if missing {
+    if absent {
         give(Shared::of(Value::Bool(false)))
     } else {
         Next {

@@ -4,8 +4,8 @@ use Rattle.dp_step_parts.proofs.receive.isset_place.Goals as goal
 
 pub returns-in-Ok : goal.returns-in-Ok
 returns-in-Ok c = λ setting. record {
-  by = λ k. then_done _ c.in-Ok.found c.args.state.now _ (rw c.as_slice.ensures at c.in-Ok.ensures)
-      ∙ sym (c.isset_found.ensures setting k c.args.state.now);
+  by = λ k. then_done _ c.in-Ok.absent c.args.state.now _ (rw c.as_slice.ensures at c.in-Ok.ensures)
+      ∙ sym (c.isset_on.ensures setting k c.args.state.now);
 }
 
 pub returns-in-Err : goal.returns-in-Err

@@ -1,13 +1,15 @@
 -- What an expression that changes nothing answers is what its parts give, one after another.
-use Rattle.std.proofs.Common.{rules, sym, ◌∙◌, arith}
+use Rattle.std.proofs.Common.{rules, ◌+◌, drop, map, refl, sym, ◌∙◌, arith}
 use Rattle.std.proofs.Math.ListN.{drop_of_length-le}
 use Rattle.std.proofs.lemmas.Int.{to_z-of_z}
 use mir.Syntax.{w64}
 use mir.Val.{SFits}
 use Rattle.dp_tree.specs.declared.tree.Expression.TheViews.{the_lemmas as depths}
+use Rattle.dp_actions.specs.Expressions.{place_run}
 use Rattle.dp_actions.proofs.AtOnceLaws.{breaks_off, exits, first_done, gives, goes_on}
 use Rattle.dp_actions.proofs.Layers.{found-plain, run-Array, run-Bool, run-Chain, run-Coalesce, run-Conditional, run-Index, run-Isset, run-item-None, run-item-Some, run-link, run-Null, run-Number, run-place, run-Text, run-Unary, run-Variable}
-use Rattle.dp_actions.proofs.ObservedValues.{front, joined_done, joined_off, joined_on, joined_to, then_on, values-all, values-break, values-first, values-more}
+use Rattle.dp_actions.proofs.MissingPlaces.{place_off, place_on, place_to}
+use Rattle.dp_actions.proofs.ObservedValues.{front, joined_done, joined_off, then_on, values-all, values-break, values-first, values-more}
 use Rattle.dp_actions.proofs.PureParts.{of-Array, of-Chain, of-Index, of-Isset, of-place}
 use Rattle.dp_actions.proofs.Tails.{kept-none, kept-some, present-none, present-some}
 use Rattle.dp_actions.proofs.observer.Observer.+observe.Goals as goal
@@ -162,30 +164,31 @@ under-returns t c =
       c.in_ok-into_shared.ensures,
     ) gives
 
-pub isset-returns-in_err-found : goal.isset-returns-in_err-found
-isset-returns-in_err-found t c =
+pub isset-returns-in_err-missing : goal.isset-returns-in_err-missing
+isset-returns-in_err-missing t c =
     λ setting. exits _ _ c.from_residual.ensures.1 (rw (
       c.loop-place.invariant setting,
       front _ c.loop-place.place-index c.place-item.result c.loop-place-test.true c.place-item.is,
-    ) (joined_off _ _ _ (c.in_err-found.ensures setting)))
+    ) (place_off (place_run c.place-item.result) (map place_run
+    (drop (c.loop-place.place-index + 1) c.args.places.now)) setting (c.in_err-missing.ensures setting)))
 
 pub isset-returns-then-missing : goal.isset-returns-then-missing
 isset-returns-then-missing t c =
     λ setting. rw (
       c.loop-place.invariant setting,
       front _ c.loop-place.place-index c.place-item.result c.loop-place-test.true c.place-item.is,
-    ) (joined_on _ _ _ (c.in_ok-found.ensures setting) (rw (
-      sym (rw c.value.ensures at c.is_missing-missing.ensures) ∙ c.if-missing.true,
-      c.of.ensures,
-    ) gives))
+    ) (place_on (place_run c.place-item.result) (map place_run
+    (drop (c.loop-place.place-index + 1) c.args.places.now)) setting (c.in_ok-missing.ensures setting)
+    (rw (c.if-missing.true, c.of.ensures) gives))
 
 pub isset-loop-place-preserved : goal.isset-loop-place-preserved
 isset-loop-place-preserved t c =
     λ setting. rw (
       c.loop-place.invariant setting,
       front _ c.loop-place.place-index c.place-item.result c.loop-place-test.true c.place-item.is,
-    ) (joined_to _ _ _ (c.in_ok-found.ensures setting)
-    (rw (sym (rw c.value.ensures at c.is_missing-missing.ensures) ∙ c.if-missing.false)))
+    ) (place_to (place_run c.place-item.result) (map place_run
+    (drop (c.loop-place.place-index + 1) c.args.places.now)) setting (c.in_ok-missing.ensures setting)
+    (rw c.if-missing.false refl))
 
 pub isset-returns : goal.isset-returns
 isset-returns t c =
@@ -195,12 +198,12 @@ isset-returns t c =
       c.of-2.ensures,
     ) gives
 
-pub found_at-values-requires : goal.found_at-values-requires
-found_at-values-requires t c = (grind (arith, depths), rw c.as_slice.ensures (of-place c.args.place.now c.requires))
+pub missing_at-values-requires : goal.missing_at-values-requires
+missing_at-values-requires t c = (grind (arith, depths), rw c.as_slice.ensures (of-place c.args.place.now c.requires))
 
-pub found_at-returns : goal.found_at-returns
-found_at-returns t c =
-    λ setting. rw run-place (then_on (rw c.as_slice.ensures at (c.values.ensures setting)) c.then_found.ensures)
+pub missing_at-returns : goal.missing_at-returns
+missing_at-returns t c =
+    λ setting. rw run-place (then_on (rw c.as_slice.ensures at (c.values.ensures setting)) c.then_missing.ensures)
 
 pub chain-returns-in_err-value : goal.chain-returns-in_err-value
 chain-returns-in_err-value t c =

@@ -37,8 +37,8 @@ decreases-under l = 4 * most size-Expression l.indices.now + 2
 abbrev pub decreases-isset : goal.decreases-isset
 decreases-isset l = 4 * most size-Place l.places.now + 3
 
-abbrev pub decreases-found_at : goal.decreases-found_at
-decreases-found_at l = 4 * size-Place l.place.now + 2
+abbrev pub decreases-missing_at : goal.decreases-missing_at
+decreases-missing_at l = 4 * size-Place l.place.now + 2
 
 abbrev pub decreases-chain : goal.decreases-chain
 decreases-chain l = 4 * max (size-Expression l.first.now) (most size-Link l.links.now) + 3

@@ -10,7 +10,7 @@ use Rattle.dp_tree.specs.declared.tree.Arm.{Arm}
 use Rattle.dp_tree.specs.declared.tree.Place.{Place, size-Place}
 use Rattle.dp_meaning.specs.inner.Evaluation.{goes_by}
 use Rattle.dp_actions.specs.Calls.{callee_of}
-use Rattle.dp_actions.specs.Expressions.{evaluation, evaluations}
+use Rattle.dp_actions.specs.Expressions.{evaluation, evaluations, place_run}
 use Rattle.dp_meaning.specs.inner.Sizes.{arm_size, body_size, expressions_size, sizes_sum, statement_size}
 use Rattle.dp_meaning.specs.Statements.{arms_run, statement_run}
 use Rattle.dp_actions.specs.Effects.{print_run}
@@ -19,7 +19,7 @@ use Rattle.dp_meaning.proofs.CallLaws.{bounded-do, bounded-turns, call-is, file-
 use Rattle.dp_meaning.proofs.Drives.{at_once, breaks_off, ends, exits, gives, goes_on, joined_off, joined_on, passes, stops_at, tested_off, tested_on, then_at, then_on}
 use Rattle.dp_actions.proofs.Layers.{found-plain, run-Array, run-Assign, run-Bool, run-Call, run-Chain, run-Coalesce, run-CoalesceAssign, run-Compound, run-Conditional, run-Include, run-Index, run-Isset, run-item-None, run-item-Some, run-link, run-Null, run-Number, run-place, run-Push, run-Step, run-Text, run-Unary, run-Variable}
 use Rattle.dp_meaning.proofs.Layers.{kind-Block, kind-Break, kind-Continue, kind-DoWhile, kind-Echo, kind-Empty, kind-Exit, kind-Expression, kind-For, kind-Foreach, kind-Global, kind-If, kind-Return, kind-Unset, kind-While, run-arm, run-statement}
-use Rattle.dp_meaning.proofs.ListLaws.{front, front-at, values-all, values-break, values-first, values-more}
+use Rattle.dp_meaning.proofs.ListLaws.{front, front-at, place_off, place_on, values-all, values-break, values-first, values-more}
 use Rattle.dp_meaning.proofs.LoopLaws.{bind-breaks, body-breaks, body-out, do-body-breaks, do-body-out, do-end, do-goes-on, do-stops, do-test-breaks, each-body-breaks, each-goes-on, each-out, each-stops, next-breaks, test-breaks, turn-goes-on, turn-stops, turns-end}
 use Rattle.dp_meaning.proofs.SizeLaws.{frame-callee, frame-file, frame_less, size-arm, size-Block, size-DoWhile, size-Echo, size-Exit, size-Expression, size-For, size-Foreach, size-If, size-in, size-Return, size-some, size-Unset, size-While, sized}
 use Rattle.dp_actions.proofs.Tails.{kept-none, kept-some, present-none, present-some}
@@ -301,8 +301,8 @@ coalesce_assign-returns g t c =
 pub step-returns : goal.step-returns
 step-returns g t c = rw run-place (then_on (rw c.as_slice.ensures at c.values.ensures) c.then_step.ensures)
 
-pub found_at-returns : goal.found_at-returns
-found_at-returns g t c = rw run-place (then_on (rw c.as_slice.ensures at c.values.ensures) c.then_found.ensures)
+pub missing_at-returns : goal.missing_at-returns
+missing_at-returns g t c = rw run-place (then_on (rw c.as_slice.ensures at c.values.ensures) c.then_missing.ensures)
 
 pub compound_under-returns-in_err-old : goal.compound_under-returns-in_err-old
 compound_under-returns-in_err-old g t c =
@@ -326,28 +326,28 @@ coalesce_under-returns-in-None g t c =
     goes_on _ (at_once c.in_ok-old.ensures) (rw (present-none _ (sym c.present.ensures ∙ c.in-None.is))
     (then_on c.expression.ensures c.then_assign.ensures))
 
-pub isset-returns-in_err-found : goal.isset-returns-in_err-found
-isset-returns-in_err-found g t c =
+pub isset-returns-in_err-missing : goal.isset-returns-in_err-missing
+isset-returns-in_err-missing g t c =
     exits _ _ c.from_residual.ensures.1 (c.loop-place.invariant _ _ (rw
     (front _ c.loop-place.place-index c.place-item.result c.loop-place-test.true c.place-item.is)
-    (joined_off _ _ _ c.in_err-found.ensures)))
+    (place_off (place_run c.place-item.result) (map place_run
+    (drop (c.loop-place.place-index + 1) c.args.places.now)) (goes_by c.args.self.now) _ c.in_err-missing.ensures)))
 
 pub isset-returns-then-missing : goal.isset-returns-then-missing
 isset-returns-then-missing g t c =
     c.loop-place.invariant _ _ (rw (front _ c.loop-place.place-index c.place-item.result c.loop-place-test.true
     c.place-item.is)
-    (joined_on _ _ _ c.in_ok-found.ensures (rw (
-      sym (rw c.value.ensures at c.is_missing-missing.ensures)
-          ∙ c.if-missing.true,
-      c.of.ensures,
-    ) gives)))
+    (place_on (place_run c.place-item.result) (map place_run
+    (drop (c.loop-place.place-index + 1) c.args.places.now)) (goes_by c.args.self.now) _ c.in_ok-missing.ensures
+    (rw (c.if-missing.true, c.of.ensures) gives)))
 
 pub isset-loop-place-preserved : goal.isset-loop-place-preserved
 isset-loop-place-preserved g t c =
     λ x u e. c.loop-place.invariant x u (rw (front _ c.loop-place.place-index c.place-item.result c.loop-place-test.true
     c.place-item.is)
-    (joined_on _ _ _ c.in_ok-found.ensures (rw (sym (rw c.value.ensures at c.is_missing-missing.ensures)
-    ∙ c.if-missing.false) e)))
+    (place_on (place_run c.place-item.result) (map place_run
+    (drop (c.loop-place.place-index + 1) c.args.places.now)) (goes_by c.args.self.now) _ c.in_ok-missing.ensures
+    (rw c.if-missing.false e)))
 
 pub isset-returns : goal.isset-returns
 isset-returns g t c =
@@ -854,7 +854,7 @@ each-returns-in_err-bind_entry g t c =
     (arith, c.len-at-end.ensures.len)) in exits _ _ c.from_residual-in_err-bind_entry.ensures.1
     (c.loop-at.invariant _ _ (rw r.2
     (bind-breaks _ c.args.line c.args.binding.now r.0 _ (statement_run c.args.body.now
-    (goes_by c.args.self.now)) _ _ c.in_ok-place.ensures _ _ (at_once (c.in_err-bind_entry.ensures r.0 r.1)))))
+    (goes_by c.args.self.now)) _ _ c.in_ok-place.ensures _ _ (at_once (c.in_err-bind_entry.ensures.entry r.0 r.1)))))
 
 pub each-returns-in_err-statement : goal.each-returns-in_err-statement
 each-returns-in_err-statement g t c =
@@ -862,7 +862,7 @@ each-returns-in_err-statement g t c =
     (arith, c.len-at-end.ensures.len)) in exits _ _ c.from_residual-in_err-statement.ensures.1
     (c.loop-at.invariant _ _ (rw r.2
     (each-body-breaks _ c.args.line c.args.binding.now r.0 _ (statement_run c.args.body.now
-    (goes_by c.args.self.now)) _ _ c.in_ok-place.ensures _ (at_once (c.in_ok-bind_entry.ensures r.0 r.1)) _ _
+    (goes_by c.args.self.now)) _ _ c.in_ok-place.ensures _ (at_once (c.in_ok-bind_entry.ensures.entry r.0 r.1)) _ _
     c.in_err-statement.ensures)))
 
 pub each-returns-in-Out : goal.each-returns-in-Out
@@ -871,7 +871,7 @@ each-returns-in-Out g t c =
     c.loop-at.invariant _ _ (rw r.2
     (each-out _ c.args.line c.args.binding.now r.0 _ (statement_run c.args.body.now (goes_by c.args.self.now)) _ _
     c.in_ok-place.ensures _
-    (at_once (c.in_ok-bind_entry.ensures r.0 r.1)) _ _ c.in_ok-statement.ensures _
+    (at_once (c.in_ok-bind_entry.ensures.entry r.0 r.1)) _ _ c.in_ok-statement.ensures _
     (sym c.after_body.ensures ∙ c.in-Out.is)))
 
 pub each-loop-at-preserved : goal.each-loop-at-preserved
@@ -881,7 +881,7 @@ each-loop-at-preserved g t c =
     u (rw r.2
     (each-goes-on _ c.args.line c.args.binding.now r.0 _ (statement_run c.args.body.now (goes_by c.args.self.now)) _ _
     c.in_ok-place.ensures _
-    (at_once (c.in_ok-bind_entry.ensures r.0 r.1)) _ _ c.in_ok-statement.ensures
+    (at_once (c.in_ok-bind_entry.ensures.entry r.0 r.1)) _ _ c.in_ok-statement.ensures
     (sym c.after_body.ensures ∙ c.in-On.is) x u (rw add-one at e)))
 
 pub each-returns : goal.each-returns

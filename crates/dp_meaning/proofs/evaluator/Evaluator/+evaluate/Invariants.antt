@@ -120,8 +120,8 @@ decreases-file g l = l.self.now.depth * frame_size l.self.now.bundle.now
 abbrev pub decreases-found : goal.decreases-found
 decreases-found g l = l.self.now.depth * frame_size l.self.now.bundle.now + (expression_size l.e.now + 1)
 
-abbrev pub decreases-found_at : goal.decreases-found_at
-decreases-found_at g l = l.self.now.depth * frame_size l.self.now.bundle.now + (4 * size-Place l.place.now + 2)
+abbrev pub decreases-missing_at : goal.decreases-missing_at
+decreases-missing_at g l = l.self.now.depth * frame_size l.self.now.bundle.now + (4 * size-Place l.place.now + 2)
 
 abbrev pub decreases-function : goal.decreases-function
 decreases-function g l = l.self.now.depth * frame_size l.self.now.bundle.now + (body_size l.function.now.body + 1)

@@ -17,7 +17,7 @@ pub returns-in-Ok : goal.returns-in-Ok
 unfolding rest_of
 returns-in-Ok c =
     let is = c.count.ensures ∙ ap counted c.set_line.ensures in record {
-      by = (omega (arith, c.if-self.false), c.in-Ok.ensures ∙ ap (moment_of c.args.kind) is, is, λ s. refl);
+      by = (omega (arith, c.if-self.false), c.in-Ok.ensures.moment ∙ ap (moment_of c.args.kind) is, is, λ s. refl);
       same_bundle = refl;
       same_bound = refl;
     }
