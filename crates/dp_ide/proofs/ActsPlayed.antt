@@ -46,7 +46,7 @@ module _ (one : Instruction) (old : Received) (before : Kept) (source sink out :
       → Appends sink.told_before sink.told (command_frame line) → TakesAnswer id before after old new source
       → Performs (one ∷ []) old new before after source sink out
   sent_performed new after line id is prints sends t =
-      performs_one one old new before after source sink out t.piece [] t.texts t.messages t.consumed t.takes t.late
+      performs_one one old new before after source sink out t.piece [] t.texts t.messages t.consumed t.takes t.wanted
       t.are
       (λ printed. subst (λ (a : Act). Does a (heard_of before printed) t.messages (heard_of after (printed ++ [])))
       (sym is)

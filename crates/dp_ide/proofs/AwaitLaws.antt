@@ -19,7 +19,7 @@ use Rattle.dp_ide.specs.declared.heard.Heard.{Heard as Kept}
 use Rattle.dp_ide.specs.declared.heard.Message.{Message}
 use Rattle.dp_ide.specs.Messages.{AreMessages, answers, output_in}
 use Rattle.dp_ide.specs.Plays.{IsReadUpTo, piece_limit}
-use Rattle.dp_ide.specs.inner.Progress.{Takes, HoldsMore, ComesFirst, ComesLate, TakesNext, LacksNext, NextFails, PieceFails, Hears, PassesOver, TakesAnswer, AnswerFails}
+use Rattle.dp_ide.specs.inner.Progress.{Takes, HoldsMore, ComesFor, ComesForOne, TakesNext, LacksNext, NextFails, PieceFails, Hears, PassesOver, TakesAnswer, AnswerFails}
 
 -- ---- packets that were taken
 
@@ -123,76 +123,69 @@ module _ (read held : List ℕ) (texts : List (List ℕ)) (each : AllByRecursion
 -- ---- how far it was read
 
 -- a piece came where no packet stood
-pub first_late : (old here : Received) (piece more : List ℕ) → HoldsMore old here piece → packets_in here.held ≡ []
-    → length more ≤ piece_limit → ComesFirst old.held (piece ++ more)
-first_late old here piece more holds none short = λ text.
-    let nothing : packets_in (old.held ++ piece) ≡ [] = ap packets_in (sym holds.held) ∙ none in
-    inr (record {
-      front = piece;
-      last = more;
-      whole = refl;
-      short = short;
-      fewer = omega (arith, ap length nothing);
-    })
-
-pub late_more : (a b : Received) (piece more : List ℕ) (texts others : List (List ℕ)) → Takes a b piece texts
-    → ComesLate a.held piece texts → ComesLate b.held more others
-    → ComesLate a.held (piece ++ more) (texts ++ others)
-late_more a b piece more texts others takes (inl none) (inl nothing) = inl (λ i. none i ++ nothing i)
-late_more a b piece more texts others takes (inr l) (inl nothing) = inr (record {
-  front = l.front;
-  last = l.last;
-  whole = ap (λ m. piece ++ m) nothing ∙ append-nil piece ∙ l.whole;
-  short = l.short;
-  fewer = omega (arith, l.fewer, length-append texts others);
+pub first_wanted : (old here : Received) (piece more : List ℕ) → HoldsMore old here piece → packets_in here.held ≡ []
+    → length more ≤ piece_limit → ComesForOne old.held (piece ++ more)
+first_wanted old here piece more holds none short = λ text. inr (record {
+  front = here.held;
+  piece = more;
+  whole = sym (append_assoc old.held piece more) ∙ ap (λ l. l ++ more) (sym holds.held);
+  short = short;
+  fewer = omega (arith, ap length none);
 })
-late_more a b piece more texts others takes before (inr l) =
-    let stands : packets_in (a.held ++ (piece ++ l.front)) ≡ texts ++ packets_in (b.held ++ l.front) = ap packets_in
-    (sym (append_assoc a.held piece l.front) ∙ ap (λ m. m ++ l.front) takes.whole ∙ append_assoc
-    (flat_map packet_frame texts) b.held l.front)
-    ∙ packets_front texts (b.held ++ l.front) takes.each in
-    inr (record {
-      front = piece ++ l.front;
-      last = l.last;
-      whole = ap (λ m. piece ++ m) l.whole ∙ sym (append_assoc piece l.front l.last);
-      short = l.short;
-      fewer = omega (
-        arith,
-        l.fewer,
-        ap length stands,
-        length-append texts (packets_in (b.held ++ l.front)),
-        length-append texts others,
-      );
-    })
 
--- where it was read up to the last of these packets, it is read up to the last of those behind them
-pub up_to_more : (read piece held : List ℕ) (texts more : List (List ℕ)) → AllByRecursion IsPacketText texts
-    → read ≡ flat_map packet_frame texts ++ held → IsReadUpTo texts read → ComesLate held piece more
-    → IsReadUpTo (texts ++ more) (read ++ piece)
-up_to_more read piece held texts more each whole up_to (inl none) = record {
+-- the same where more packets are wanted
+up_to_all : (read : List ℕ) (texts more : List (List ℕ)) → IsReadUpTo texts read → IsReadUpTo (texts ++ more) read
+up_to_all read texts more up_to = record {
   front = up_to.front;
   piece = up_to.piece;
-  whole = ap (λ m. read ++ m) none ∙ append-nil read ∙ up_to.whole;
+  whole = up_to.whole;
   short = up_to.short;
   fewer = omega (arith, up_to.fewer, length-append texts more);
 }
-up_to_more read piece held texts more each whole up_to (inr l) =
-    let stands : packets_in (read ++ l.front) ≡ texts ++ packets_in (held ++ l.front) = ap packets_in
-    (ap (λ m. m ++ l.front) whole ∙ append_assoc (flat_map packet_frame texts) held l.front)
-    ∙ packets_front texts (held ++ l.front) each in
+
+-- behind what was held more came, and what was held came behind these packets
+up_to_behind : (before held piece : List ℕ) (texts more : List (List ℕ)) → AllByRecursion IsPacketText texts
+    → before ≡ flat_map packet_frame texts ++ held → IsReadUpTo more (held ++ piece)
+    → IsReadUpTo (texts ++ more) (before ++ piece)
+up_to_behind before held piece texts more each whole up_to =
+    let frames = flat_map packet_frame texts in
+    let stands : packets_in (frames ++ up_to.front) ≡ texts ++ packets_in up_to.front =
+    packets_front texts up_to.front each in
     record {
-      front = read ++ l.front;
-      piece = l.last;
-      whole = ap (λ m. read ++ m) l.whole ∙ sym (append_assoc read l.front l.last);
-      short = l.short;
+      front = frames ++ up_to.front;
+      piece = up_to.piece;
+      whole =
+          ap (λ l. l ++ piece) whole ∙ append_assoc frames held piece ∙ ap (λ l. frames ++ l) up_to.whole ∙ sym
+          (append_assoc frames up_to.front up_to.piece);
+      short = up_to.short;
       fewer = omega (
         arith,
-        l.fewer,
+        up_to.fewer,
         ap length stands,
-        length-append texts (packets_in (held ++ l.front)),
+        length-append texts (packets_in up_to.front),
         length-append texts more,
       );
     }
+
+pub up_to_more : (read piece held : List ℕ) (texts more : List (List ℕ)) → AllByRecursion IsPacketText texts
+    → read ≡ flat_map packet_frame texts ++ held → IsReadUpTo texts read → ComesFor held piece more
+    → IsReadUpTo (texts ++ more) (read ++ piece)
+up_to_more read piece held texts more each whole up_to (inl none) =
+    subst (IsReadUpTo (texts ++ more)) (sym (ap (λ l. read ++ l) none ∙ append-nil read))
+    (up_to_all read texts more up_to)
+up_to_more read piece held texts more each whole up_to (inr wanted) =
+    up_to_behind read held piece texts more each whole wanted
+
+pub wanted_more : (a b : Received) (piece more : List ℕ) (texts others : List (List ℕ)) → Takes a b piece texts
+    → ComesFor a.held piece texts → ComesFor b.held more others
+    → ComesFor a.held (piece ++ more) (texts ++ others)
+wanted_more a b piece more texts others takes (inl none) (inl nothing) = inl (λ i. none i ++ nothing i)
+wanted_more a b piece more texts others takes (inr wanted) later =
+    inr (subst (IsReadUpTo (texts ++ others)) (append_assoc a.held piece more)
+    (up_to_more (a.held ++ piece) more b.held texts others takes.each takes.whole wanted later))
+wanted_more a b piece more texts others takes (inl none) (inr wanted) =
+    inr (subst (IsReadUpTo (texts ++ others)) (append_assoc a.held piece more)
+    (up_to_behind (a.held ++ piece) b.held more texts others takes.each takes.whole wanted))
 
 -- what rose behind a later count rose behind an earlier one
 pub rose_since : (first before now : ℕ) → first ≤ before → Rose before now → Rose first now
@@ -255,7 +248,7 @@ none_append id (m ∷ messages) others none later =
 pub passes_none : (id : List ℕ) (held : Received) (kept : Kept) → PassesOver id held held kept kept []
 passes_none id held kept = record {
   texts = [];
-  late = inl refl;
+  wanted = inl refl;
   takes = takes_none held;
   messages = [];
   are = tt;
@@ -270,8 +263,8 @@ module _ (id : List ℕ) (a b c : Received) (before between after : Kept) (piece
       → PassesOver id a c before after (piece ++ next.piece)
   passes_more message next hears = record {
     texts = passes.texts ++ next.text ∷ [];
-    late =
-        late_more a b piece next.piece passes.texts (next.text ∷ []) passes.takes passes.late next.late;
+    wanted =
+        wanted_more a b piece next.piece passes.texts (next.text ∷ []) passes.takes passes.wanted next.wanted;
     takes = takes_more a b c piece next.piece passes.texts (next.text ∷ []) passes.takes next.takes;
     messages = passes.messages ++ message ∷ [];
     are = are_append passes.texts (next.text ∷ []) passes.messages (message ∷ []) passes.are (next.is, tt);
@@ -295,8 +288,8 @@ module _ (id : List ℕ) (a b c : Received) (before between after : Kept) (piece
       consumed = Consumes-trans whole.told_before source.told_before whole.told piece next.piece first
           (subst (λ (t : Option (List ℕ)). Consumes source.told_before t next.piece) last next.consumed);
       texts = passes.texts ++ next.text ∷ [];
-      late =
-          late_more a b piece next.piece passes.texts (next.text ∷ []) passes.takes passes.late next.late;
+      wanted =
+          wanted_more a b piece next.piece passes.texts (next.text ∷ []) passes.takes passes.wanted next.wanted;
       takes = takes_more a b c piece next.piece passes.texts (next.text ∷ []) passes.takes next.takes;
       messages = passes.messages ++ message ∷ [];
       are = are_append passes.texts (next.text ∷ []) passes.messages (message ∷ []) passes.are (next.is, tt);

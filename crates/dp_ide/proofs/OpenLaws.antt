@@ -1,12 +1,12 @@
 -- The first message, and the commands of a script.
-use Rattle.std.proofs.Common.{◌≡◌, ◌↔◌, inl, inr, ℕ, suc, ◌+◌, ◌<◌, Bool, true, false, List, [], ◌∷◌, ◌++◌, length, refl, sym, ap, ◌∙◌, subst, append-nil, arith, length-append, decimal}
+use Rattle.std.proofs.Common.{◌≡◌, ◌↔◌, inl, inr, ℕ, suc, ◌+◌, Bool, true, false, List, [], ◌∷◌, ◌++◌, length, refl, sym, ap, ◌∙◌, subst, append-nil, arith, length-append, decimal}
 use Rattle.std.specs.Prelude.{Result, Ok, Err, IfOk, IfErr, IsOk, IsTrue}
 use Rattle.std.specs.List.{All}
 use Rattle.std.specs.Io.KnownBytes.{Consumes}
 use Rattle.std.proofs.lemmas.Bool.{false≢true}
 use Rattle.std.proofs.lemmas.List.Elements.{All-push}
 use Rattle.dp_outside.specs.Changes.{Change}
-use Rattle.dp_wire.specs.Frames.{packet_frame, packets_in}
+use Rattle.dp_wire.specs.Frames.{packet_frame}
 use Rattle.dp_wire.specs.Received.{Received}
 use Rattle.dp_ide.specs.declared.errors.IdeError.{IdeError}
 use Rattle.dp_ide.specs.declared.errors.IdeError.TheVariants.{BadPacket}
@@ -19,7 +19,7 @@ use Rattle.dp_ide.specs.Messages.{is_init}
 use Rattle.dp_grammar.specs.Lines.{AreSaid}
 use Rattle.dp_ide.specs.Plays.{IsReadUpTo}
 use Rattle.dp_ide.specs.Scripts.{ActLine, Says, SaysAt}
-use Rattle.dp_ide.specs.inner.Progress.{TakesNext, LacksNext, NextFails, ComesLate, OpenFails, Stood, StoodUpTo, IsPlayable}
+use Rattle.dp_ide.specs.inner.Progress.{TakesNext, LacksNext, NextFails, ComesFor, OpenFails, Stood, StoodUpTo, IsPlayable}
 use Rattle.dp_ide.proofs.EndLaws.{one_message_of}
 
 -- ---- the init
@@ -59,22 +59,16 @@ module _ (old new : Received) (source : Change) (last : Message) (none : old.hel
         length-append (packet_frame t.text) [],
       )
 
-  up_to : ComesLate old.held t.piece (t.text ∷ []) → IsReadUpTo (t.text ∷ []) t.piece
+  up_to : ComesFor old.held t.piece (t.text ∷ []) → IsReadUpTo (t.text ∷ []) t.piece
   up_to (inl nothing) = absurd (some nothing)
-  up_to (inr l) = record {
-    front = l.front;
-    piece = l.last;
-    whole = l.whole;
-    short = l.short;
-    fewer = subst (λ (held : List ℕ). length (packets_in (held ++ l.front)) < 1) none l.fewer;
-  }
+  up_to (inr wanted) = subst (λ (held : List ℕ). IsReadUpTo (t.text ∷ []) (held ++ t.piece)) none wanted
 
   pub opened : (r : Result Kept IdeError) → IsOk r ↔ IsTrue (is_init last.packet)
       → IfOk r (λ heard. (heard.last ≡ last) × (heard.output.items ≡ []))
       → IfOk r (λ heard. (read : List ℕ) × Consumes source.told_before source.told read
       × StoodUpTo read [] new heard [])
   opened (Ok heard) is h =
-      (t.piece, t.consumed, record { stood = stood heard (is.0 refl) h.0 h.1; up_to = up_to t.late })
+      (t.piece, t.consumed, record { stood = stood heard (is.0 refl) h.0 h.1; up_to = up_to t.wanted })
   opened (Err why) is h = tt
 
   not_init : (r : Result Kept IdeError) (why : IdeError) → r ≡ Err why → IsOk r ↔ IsTrue (is_init last.packet)

@@ -27,7 +27,7 @@ use Rattle.dp_ide.specs.Messages.{IsMessage, AreMessages, is_init}
 use Rattle.dp_ide.specs.Instructions.{Heard, Does, Goes, Played, expected, sent, sent_by}
 use Rattle.dp_ide.specs.Plays.{Progress, Comes, Waiting, IsUnfit, IsBadAt, Lacks, StopsAt, Ends, init, response}
 use Rattle.dp_ide.proofs.AwaitLaws.{each_append, are_append, frames_then, packets_are, rest_is, rose_since, takes_none, up_to_more}
-use Rattle.dp_ide.specs.inner.Progress.{heard_of, ComesLate, Takes, LacksNext, Stood, StoodUpTo, Performs, StopsHere, WaitsHere, PerformFails, EndsFrom, OpenFails, printed_line}
+use Rattle.dp_ide.specs.inner.Progress.{heard_of, ComesFor, Takes, LacksNext, Stood, StoodUpTo, Performs, StopsHere, WaitsHere, PerformFails, EndsFrom, OpenFails, printed_line}
 
 -- ---- instructions
 
@@ -102,12 +102,12 @@ performs_none held kept source sink out reads sends prints = record {
 
 pub performs_one : (one : Instruction) (old new : Received) (before after : Kept) (source sink out : Change)
     (piece said : List ℕ) (texts : List (List ℕ)) (messages : List Message)
-    → Consumes source.told_before source.told piece → Takes old new piece texts → ComesLate old.held piece texts
+    → Consumes source.told_before source.told piece → Takes old new piece texts → ComesFor old.held piece texts
     → AreMessages texts messages
     → ((printed : List ℕ) → Does one.act (heard_of before printed) messages (heard_of after (printed ++ said)))
     → Appends sink.told_before sink.told (sent_by one.act) → Appends out.told_before out.told said
     → Performs (one ∷ []) old new before after source sink out
-performs_one one old new before after source sink out piece said texts messages consumed takes late are does sends
+performs_one one old new before after source sink out piece said texts messages consumed takes wanted are does sends
     prints = record {
       piece = piece;
       consumed = consumed;
@@ -127,7 +127,7 @@ performs_one one old new before after source sink out piece said texts messages 
               stood.played (does printed);
         };
         up_to =
-            up_to_more read piece old.held stood.texts texts stood.each stood.whole before_it.up_to late;
+            up_to_more read piece old.held stood.texts texts stood.each stood.whole before_it.up_to wanted;
       };
     }
 

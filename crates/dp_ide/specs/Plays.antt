@@ -35,8 +35,7 @@ pub record Progress (script : List Instruction) (read : List ℕ) : Type 0 where
 abbrev pub piece_limit : ℕ
 piece_limit = 65536
 
--- What was read ends with one piece, before which not all of these packets had come: behind the
--- last of them nothing more is read.
+-- What was read ends with at most one piece, before which not all of these packets had come.
 pub record IsReadUpTo (texts : List (List ℕ)) (read : List ℕ) : Type 0 where
   pub front : List ℕ
   pub piece : List ℕ

@@ -249,7 +249,7 @@ fn perform_each<S: Source, K: Sink, O: Sink>(
 /// Plays a script over the link of an engine: its first packet is awaited, then each instruction is played in order.
 ///
 /// Commands are sent on `sink`, each by one put, and what a `print` writes goes to `out`. It reads pieces of at most
-/// 65,536 bytes while a packet is awaited, and nothing behind the piece in which the last one came. It waits in the
+/// 65,536 bytes while a packet is awaited, so behind the last one that it awaits it has read fewer. It waits in the
 /// calls of `source`, `sink` and `out` alone.
 pub fn play<R: Wait + Sync, S: Source, K: Sink, O: Sink>(
     _rt: &R,

@@ -6,7 +6,7 @@ use Rattle.dp_markup.specs.Texts.{written}
 use Rattle.dp_outside.specs.Causes.{Rose}
 use Rattle.dp_outside.specs.Changes.{Change}
 use Rattle.dp_outside.specs.Streams.{AppendsFront}
-use Rattle.dp_wire.specs.Frames.{BeginsPacket, IsCommand, IsPacketText, IsPartialPacket, command_frame, packet_frame, packets_in}
+use Rattle.dp_wire.specs.Frames.{BeginsPacket, IsCommand, IsPacketText, IsPartialPacket, command_frame, packet_frame}
 use Rattle.dp_wire.specs.Places.{place_behind, IsRefusedAt}
 use Rattle.dp_wire.specs.Received.{Received}
 use Rattle.dp_ide.specs.declared.errors.IdeError.{IdeError}
@@ -17,7 +17,7 @@ use Rattle.dp_ide.specs.declared.heard.Heard.{Heard as Kept}
 use Rattle.dp_ide.specs.declared.heard.Message.{Message}
 use Rattle.dp_ide.specs.Messages.{IsMessage, AreMessages, answers, is_init, output_in}
 use Rattle.dp_ide.specs.Instructions.{Heard, Expectation, Answered, Played, expected, sent}
-use Rattle.dp_ide.specs.Plays.{Ends, IsReadUpTo, piece_limit}
+use Rattle.dp_ide.specs.Plays.{Ends, IsReadUpTo}
 
 -- what the code keeps, with what was printed before
 abbrev pub heard_of : Kept → List ℕ → Heard
@@ -34,22 +34,13 @@ pub record Takes (old new : Received) (piece : List ℕ) (texts : List (List ℕ
   pub place : (before : List (List ℕ)) → old.dropped ≡ place_behind before
       → new.dropped ≡ place_behind (before ++ texts)
 
--- Behind what was held this came, in pieces, and before the last of them fewer packets stood than
--- these.
-pub record Late (held piece : List ℕ) (texts : List (List ℕ)) : Type 0 where
-  pub front : List ℕ
-  pub last : List ℕ
-  pub whole : piece ≡ front ++ last
-  pub short : length last ≤ piece_limit
-  pub fewer : length (packets_in (held ++ front)) < length texts
+-- nothing came behind what was held, or no more than these packets wanted
+abbrev pub ComesFor : List ℕ → List ℕ → List (List ℕ) → Type 0
+ComesFor held piece texts = (piece ≡ []) ⊎ IsReadUpTo texts (held ++ piece)
 
--- nothing came, or no more than these packets wanted
-abbrev pub ComesLate : List ℕ → List ℕ → List (List ℕ) → Type 0
-ComesLate held piece texts = (piece ≡ []) ⊎ Late held piece texts
-
--- nothing came, or before the last piece no packet stood
-abbrev pub ComesFirst : List ℕ → List ℕ → Type 0
-ComesFirst held piece = (text : List ℕ) → ComesLate held piece (text ∷ [])
+-- the same of one packet, whichever it is
+abbrev pub ComesForOne : List ℕ → List ℕ → Type 0
+ComesForOne held piece = (text : List ℕ) → ComesFor held piece (text ∷ [])
 
 -- why no piece follows what is held
 abbrev pub PieceFails : IdeError → Change → Type 0
@@ -69,7 +60,7 @@ pub record HoldsNext (old new : Received) (start end : ℕ) (source : Change)
     : Type 0 where
   pub piece : List ℕ
   pub consumed : Consumes source.told_before source.told piece
-  pub late : ComesFirst old.held piece
+  pub wanted : ComesForOne old.held piece
   pub more : HoldsMore old new piece
   pub within : (start ≤ end) × (end < length new.held)
   pub begins : BeginsPacket new.held (slice_range new.held start end)
@@ -80,7 +71,7 @@ pub record TakesNext (old new : Received) (source : Change) (message : Message) 
   pub piece : List ℕ
   pub consumed : Consumes source.told_before source.told piece
   pub text : List ℕ
-  pub late : ComesLate old.held piece (text ∷ [])
+  pub wanted : ComesFor old.held piece (text ∷ [])
   pub takes : Takes old new piece (text ∷ [])
   pub is : IsMessage text message
 
@@ -118,7 +109,7 @@ pub record Hears (id : List ℕ) (message : Message) (before after : Kept) (foun
 pub record PassesOver (id : List ℕ) (old new : Received) (before after : Kept) (piece : List ℕ)
     : Type 0 where
   pub texts : List (List ℕ)
-  pub late : ComesLate old.held piece texts
+  pub wanted : ComesFor old.held piece texts
   pub takes : Takes old new piece texts
   pub messages : List Message
   pub are : AreMessages texts messages
@@ -133,7 +124,7 @@ pub record TakesAnswer (id : List ℕ) (before after : Kept) (old new : Received
   pub piece : List ℕ
   pub consumed : Consumes source.told_before source.told piece
   pub texts : List (List ℕ)
-  pub late : ComesLate old.held piece texts
+  pub wanted : ComesFor old.held piece texts
   pub takes : Takes old new piece texts
   pub messages : List Message
   pub are : AreMessages texts messages

@@ -16,7 +16,7 @@ returns-in-Ok-Some-clause-ok g c =
       piece = h.piece;
       consumed = h.consumed;
       text = text;
-      late = h.late text;
+      wanted = h.wanted text;
       takes =
           takes_front c.args.packets.now here c.drop_front.new.self h.piece text
           (drop (range.end + 1) here.held) h.more h.begins (c.drop_front.ensures.held _ _ h.begins)

@@ -3,7 +3,7 @@ use Rattle.std.proofs.KnownBytes.{Consumes-trans}
 use Rattle.dp_outside.specs.Changes.{change}
 use Rattle.dp_wire.specs.Frames.{IsPartialPacket}
 use Rattle.dp_wire.specs.Places.{refused_at}
-use Rattle.dp_ide.proofs.AwaitLaws.{first_late, piece_failed, refused_next}
+use Rattle.dp_ide.proofs.AwaitLaws.{first_wanted, piece_failed, refused_next}
 use Rattle.dp_ide.proofs.waits.next_range.Goals as goal
 
 pub returns-in-Err-clause-err : goal.returns-in-Err-clause-err
@@ -40,7 +40,7 @@ pieces-preserved g c =
               more.2.held ∙ ap (λ l. l ++ more.0) before.2.held ∙ append_assoc c.args.packets.now.held before.0 more.0;
           dropped = more.2.dropped ∙ before.2.dropped;
         },
-        first_late c.args.packets.now c.pieces.packets before.0 more.0 before.2
+        first_wanted c.args.packets.now c.pieces.packets before.0 more.0 before.2
             (c.next.ensures.none (c.in-Ok-None.is ∙ ap Ok c.in-Ok-None.field-0-is)) (omega (arith, more.3, more.4)),
       ),
     )
