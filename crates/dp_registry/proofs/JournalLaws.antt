@@ -5,27 +5,27 @@ use Rattle.std.proofs.Common.{Contains, refl, sym, ap, subst, ◌∙◌, inl, in
 use Rattle.std.proofs.lemmas.Option.{same_Some}
 use Rattle.std.proofs.lemmas.List.{append-nil, append_assoc, length_push}
 use Rattle.std.proofs.lemmas.List.Elements.{Contains-push, Contains-push_cases}
-use Rattle.std.proofs.lemmas.Bool.{false≢true}
 use Rattle.std.proofs.lemmas.Bool.Decides.{nat_tests}
-use Rattle.std.specs.List.{list_any}
 use Rattle.std.specs.Str.{bytes_eq}
 use Rattle.dp_registry.specs.declared.entry.Entry.{Entry}
 use Rattle.dp_registry.specs.declared.entry.Entry.TheVariants.{Register, Stop, Admit, Dismiss}
 use Rattle.dp_registry.specs.declared.entry.AdmitReply.TheVariants.{Given}
 use Rattle.dp_registry.specs.Journal.{IsNew}
-use Rattle.dp_registry.specs.Journal.{decides, registrant, holder, gift_under, dismisses, given, given_under, is_live}
+use Rattle.dp_registry.specs.Journal.{decides, registrant, holder, given, given_under, is_live}
 use Rattle.dp_registry.specs.Journal.{live, live_under, next_session, least}
 use Rattle.dp_registry.specs.Legal.{IsFit, AreFit, IsLegal}
 use Rattle.dp_registry.specs.Verdicts.{is_full, is_crowded, load, most_entries, most_live}
-use Rattle.dp_registry.specs.inner.Kept.{IsKept, IsNumbered, IsRising, IsIdle, IsWithin, entry_at, admitted_key}
+use Rattle.dp_registry.specs.inner.Kept.{IsKept, IsIdle, IsWithin, entry_at, admitted_key}
 use Rattle.dp_registry.specs.inner.Tables.{place_of, sessions_of}
 use Rattle.dp_registry.proofs.Keys.{itself, same_key}
-use Rattle.dp_registry.proofs.Lists.{get_push, get_end, get_before, into_filter, from_filter, nowhere, rising_push}
+use Rattle.dp_registry.proofs.Lists.{get_push, get_end, get_before, into_filter, from_filter, nowhere}
 use Rattle.dp_registry.proofs.Lists.{rising_filter, first_is_least, without, one_less}
-use Rattle.dp_registry.proofs.Appends.{IsQuiet, idle_quiet, idle_decides, holder_stays, holder_decided, given_push}
-use Rattle.dp_registry.proofs.Appends.{dismissed_before, live_push, live_under_push, quiet_given, quiet_live}
+use Rattle.dp_registry.proofs.Appends.{IsQuiet, idle_quiet, idle_decides, holder_stays, holder_decided}
+use Rattle.dp_registry.proofs.Appends.{quiet_given, quiet_live}
 use Rattle.dp_registry.proofs.Appends.{quiet_live_under, dismissed_given, dismissed_live, dismissed_live_under}
-use Rattle.dp_registry.proofs.Appends.{under_given, given_somewhere}
+use Rattle.dp_registry.proofs.Appends.{given_somewhere}
+use Rattle.dp_registry.proofs.Numbers.{quiet_numbered, below_next, live_more, given_more, under_more, under_same}
+use Rattle.dp_registry.proofs.Numbers.{numbered_more, numbered_less, numbered_none}
 
 and_true : (b : Bool) → (b && true) ≡ b
 and_true true = refl
@@ -74,16 +74,6 @@ admitted_within : (j : List Entry) (at : ℕ) (key : List ℕ) → admitted_key 
 admitted_within [] at key h = cc
 admitted_within (e ∷ j) zero key h = omega arith
 admitted_within (e ∷ j) (suc at) key h = let lt = admitted_within j at key h in omega arith
-
--- ---- numbers
-quiet_numbered : (j : List Entry) (e : Entry) → IsQuiet e → IsNumbered j → IsNumbered (j ++ e ∷ [])
-quiet_numbered j e quiet n = record {
-  below = λ s is. let b = n.below s (subst (λ ns. Contains ns s) (quiet_given j e quiet) is) in
-      (b.0, rw (quiet_given j e quiet) b.1);
-  rising = subst IsRising (sym (quiet_given j e quiet)) n.rising;
-  known = λ s is. rw (quiet_given j e quiet) (n.known s (sym (dismissed_before j e s (quiet.dismisses s)) ∙ is));
-  rising_under = λ key. subst IsRising (sym (quiet_live_under j e quiet key)) (n.rising_under key);
-}
 
 -- ---- entries that leave the sessions
 module _ (j : List Entry) (held : List (List ℕ × ℕ)) (under : List (List ℕ × List ℕ)) (admissions : List ℕ) (living : ℕ)
@@ -178,9 +168,6 @@ module _ (j : List Entry) (held : List (List ℕ × ℕ)) (under : List (List �
   first_least key = ap (λ ns. slice_get ns 0) (kept.sessions key)
       ∙ first_is_least (live_under key j) (kept.numbered.rising_under key)
 
-  below_next : (key : List ℕ) (s : ℕ) → Contains (live_under key j) s → (1 ≤ s) × (s ≤ length (given j))
-  below_next key s is = kept.numbered.below s (under_given j s key (from_filter (is_live j) (given_under key j) s is).0)
-
   -- the next number is above all that were given
   pub next_is_new : IsNew j (next_session j)
   next_is_new = record { above = λ s is. let low = (kept.numbered.below s is).1 in omega arith }
@@ -191,60 +178,13 @@ module _ (j : List Entry) (held : List (List ℕ × ℕ)) (under : List (List �
     abbrev e : Entry
     e = Admit k (Given s host port)
 
-    fresh-by : (b : Bool) → list_any (dismisses s) j ≡ b → is_live j s ≡ true
-    fresh-by true h = let low = kept.numbered.known s h in absurd (omega arith)
-    fresh-by false h = ap not h
-
-    fresh : is_live j s ≡ true
-    fresh = fresh-by (list_any (dismisses s) j) refl
-
-    live_more : live (j ++ e ∷ []) ≡ live j ++ s ∷ []
-    live_more = let one : filter (is_live j) (s ∷ []) ≡ s ∷ [] = rw fresh refl in live_push j e (λ t. refl)
-        ∙ ap (λ ns. live j ++ ns) one
-
-    given_more : given (j ++ e ∷ []) ≡ given j ++ s ∷ []
-    given_more = given_push j e
-
-    module _ (key : List ℕ) where
-      under_more : bytes_eq k key ≡ true → live_under key (j ++ e ∷ []) ≡ live_under key j ++ s ∷ []
-      under_more h =
-          let one : filter (is_live j) (gift_under key e) ≡ s ∷ [] = rw (h, fresh) refl in
-          live_under_push j e (λ t. refl) key ∙ ap (λ ns. live_under key j ++ ns) one
-
-      under_same : bytes_eq k key ≡ false → live_under key (j ++ e ∷ []) ≡ live_under key j
-      under_same h =
-          let one : filter (is_live j) (gift_under key e) ≡ [] = rw h refl in
-          live_under_push j e (λ t. refl) key ∙ ap (λ ns. live_under key j ++ ns) one ∙ append-nil (live_under key j)
-
-      rising_more : (b : Bool) → bytes_eq k key ≡ b → IsRising (live_under key (j ++ e ∷ []))
-      rising_more true h =
-          subst IsRising (sym (under_more h)) (rising_push (live_under key j) s (kept.numbered.rising_under key)
-          (λ m is. let low = (below_next key m is).1 in omega arith))
-      rising_more false h = subst IsRising (sym (under_same h)) (kept.numbered.rising_under key)
-
-    numbered_more : IsNumbered (j ++ e ∷ [])
-    numbered_more =
-        let longer : length (given (j ++ e ∷ [])) ≡ length (given j) + 1 = ap length given_more
-        ∙ length_push (given j) s in
-        record {
-          below = λ t is. elim (Contains-push_cases (given j) s t (subst (λ ns. Contains ns t) given_more is)) [
-            | inl old ↦ let b = kept.numbered.below t old in let low = b.0 in let high = b.1 in
-                (omega arith, omega arith)
-            | inr new ↦ (omega arith, omega arith)
-          ];
-          rising = subst IsRising (sym given_more) (rising_push (given j) s kept.numbered.rising (λ m is. let low =
-              (kept.numbered.below m is).1 in omega arith));
-          known = λ t is. let low = kept.numbered.known t (sym (dismissed_before j e t refl) ∙ is) in omega arith;
-          rising_under = λ key. rising_more key (bytes_eq k key) refl;
-        }
-
     module _ (key : List ℕ) (t : ℕ) where
       abbrev Owned : Type 0
       Owned = admitted_key (entry_at (j ++ e ∷ []) (slice_get (admissions ++ length j ∷ []) (t - 1))) ≡ Some key
 
       owned_old : Contains (live_under key j) t → Owned
       owned_old is =
-          let b = below_next key t is in
+          let b = below_next j kept.numbered key t is in
           let low = b.0 in
           let high = b.1 in
           let many = kept.as_many in
@@ -264,15 +204,15 @@ module _ (j : List Entry) (held : List (List ℕ × ℕ)) (under : List (List �
 
       owned : (b : Bool) → bytes_eq k key ≡ b → Contains (live_under key (j ++ e ∷ [])) t → Owned
       owned true h is = elim (Contains-push_cases (live_under key j) s t (subst (λ ns. Contains ns t)
-          (under_more key h) is)) [
+          (under_more j kept.numbered k s host port next key h) is)) [
             | inl old ↦ owned_old old
             | inr new ↦ owned_new h new
           ]
-      owned false h is = owned_old (subst (λ ns. Contains ns t) (under_same key h) is)
+      owned false h is = owned_old (subst (λ ns. Contains ns t) (under_same j kept.numbered k s host port next key h) is)
 
     -- it is live then
     pub given_lives : Contains (live (j ++ Admit k (Given s host port) ∷ [])) s
-    given_lives = subst (λ ns. Contains ns s) (sym live_more) (Contains-push (live j) s)
+    given_lives = subst (λ ns. Contains ns s) (sym (live_more j kept.numbered k s host port next)) (Contains-push (live j) s)
 
     pub kept_given : (now : List (List ℕ × List ℕ)) → IsFit j (Admit k (Given s host port)) →
         ((key : List ℕ) → sessions_of now key ≡ (if bytes_eq k key then sessions_of under key ++ s ∷ [] else
@@ -280,7 +220,7 @@ module _ (j : List Entry) (held : List (List ℕ × ℕ)) (under : List (List �
         IsKept (j ++ Admit k (Given s host port) ∷ []) held now (admissions ++ length j ∷ []) (living + 1)
     kept_given now fit more =
         let longer = length_push j e in
-        let larger : length (live (j ++ e ∷ [])) ≡ length (live j) + 1 = ap length live_more ∙ length_push (live j) s in
+        let larger : length (live (j ++ e ∷ [])) ≡ length (live j) + 1 = ap length (live_more j kept.numbered k s host port next) ∙ length_push (live j) s in
         let space : load j + 2 ≤ most_entries = let h : nat_lt most_entries (load j + 2) ≡ false =
         or_left (nat_lt most_entries (load j + 2)) (length (live j) == most_live) free in
         grind (arith, nat_tests) in
@@ -289,11 +229,11 @@ module _ (j : List Entry) (held : List (List ℕ × ℕ)) (under : List (List �
         kept.legal.few in grind (arith, nat_tests) in
         record {
           legal = legal_push j e kept.legal fit (omega arith) (omega arith);
-          numbered = numbered_more;
+          numbered = (numbered_more j kept.numbered k s host port next);
           holders = λ key. holder_kept e key refl;
           places = place_kept e;
           sessions = λ key. more key ∙ by key now (bytes_eq k key) refl;
-          as_many = length_push admissions (length j) ∙ ap (λ n. n + 1) kept.as_many ∙ sym (ap length given_more
+          as_many = length_push admissions (length j) ∙ ap (λ n. n + 1) kept.as_many ∙ sym (ap length (given_more j kept.numbered k s host port next)
               ∙ length_push (given j) s);
           owners = λ key t is. owned key t (bytes_eq k key) refl is;
           count = ap (λ n. n + 1) kept.count ∙ sym larger;
@@ -302,8 +242,8 @@ module _ (j : List Entry) (held : List (List ℕ × ℕ)) (under : List (List �
         by : (key : List ℕ) (now : List (List ℕ × List ℕ)) (b : Bool) → bytes_eq k key ≡ b →
             (if bytes_eq k key then sessions_of under key ++ s ∷ [] else sessions_of under key) ≡ live_under key
             (j ++ e ∷ [])
-        by key now true h = rw h (ap (λ ns. ns ++ s ∷ []) (kept.sessions key) ∙ sym (under_more key h))
-        by key now false h = rw h (kept.sessions key ∙ sym (under_same key h))
+        by key now true h = rw h (ap (λ ns. ns ++ s ∷ []) (kept.sessions key) ∙ sym (under_more j kept.numbered k s host port next key h))
+        by key now false h = rw h (kept.sessions key ∙ sym (under_same j kept.numbered k s host port next key h))
 
   -- ---- a session less
   module _ (t : ℕ) (is : Contains (live j) t) where
@@ -339,26 +279,6 @@ module _ (j : List Entry) (held : List (List ℕ × ℕ)) (under : List (List �
     pub one_live : 1 ≤ living
     one_live = let less = fewer in let count = kept.count in omega arith
 
-    numbered_less : IsNumbered (j ++ Dismiss t ∷ [])
-    numbered_less = record {
-      below = λ s has. let b = kept.numbered.below s (subst (λ ns. Contains ns s) (dismissed_given j t) has) in
-          (b.0, rw (dismissed_given j t) b.1);
-      rising = subst IsRising (sym (dismissed_given j t)) kept.numbered.rising;
-      known = λ s has. rw (dismissed_given j t) (known s has);
-      rising_under = λ key. subst IsRising (sym (dismissed_live_under j t key)) (rising_filter (λ s. not (t == s))
-          (live_under key j) (kept.numbered.rising_under key));
-    }
-      where
-        known : (s : ℕ) → list_any (dismisses s) (j ++ Dismiss t ∷ []) ≡ true → s ≤ length (given j)
-        known s has = by (t == s) refl
-          where
-            by : (b : Bool) → (t == s) ≡ b → s ≤ length (given j)
-            by true h =
-                let same : t ≡ s = grind (arith, nat_tests) in
-                let high = (kept.numbered.below t (from_filter (is_live j) (given j) t is).0).1 in
-                omega arith
-            by false h = kept.numbered.known s (sym (dismissed_before j (Dismiss t) s h) ∙ has)
-
     module _ (k : List ℕ) (owner : admitted_key (entry_at j (slice_get admissions (t - 1))) ≡ Some k) where
       apart : (key : List ℕ) → bytes_eq k key ≡ false → Contains (live_under key j) t → ⊥
       apart key h has =
@@ -379,7 +299,7 @@ module _ (j : List Entry) (held : List (List ℕ × ℕ)) (under : List (List �
           let count = kept.count in
           record {
             legal = legal_push j (Dismiss t) kept.legal is (omega arith) (omega arith);
-            numbered = numbered_less;
+            numbered = numbered_less j kept.numbered t is;
             holders = λ key. holder_kept (Dismiss t) key refl;
             places = place_kept (Dismiss t);
             sessions = λ key. gone key ∙ by key (bytes_eq k key) refl ∙ sym (dismissed_live_under j t key);
@@ -400,13 +320,7 @@ module _ (j : List Entry) (held : List (List ℕ × ℕ)) (under : List (List �
 kept_none : IsKept [] [] [] [] 0
 kept_none = record {
   legal = record { fit = tt; within = omega arith; few = omega arith };
-  numbered = record {
-    below = λ s is. absurd (nowhere s is);
-    rising = tt;
-    known =
-        λ s is. absurd (false≢true is);
-    rising_under = λ key. tt;
-  };
+  numbered = numbered_none;
   holders = λ key. refl;
   places = λ key. tt;
   sessions = λ key. refl;

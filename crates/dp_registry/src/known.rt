@@ -15,6 +15,7 @@ const MOST_LIVE: usize = 256;
 impl Registry {
     ghost use Rattle.std.specs.Prelude.{◌≡◌, option_map, IfOk, Some};
     ghost use Rattle.dp_registry.specs.Journal.{holder, live_under, next_session, least};
+    ghost use Rattle.dp_registry.specs.Legal.{IsLegal};
     ghost use Rattle.dp_registry.specs.Verdicts.{is_full, is_crowded, full, registering, stopping, admitting};
     ghost use Rattle.dp_registry.specs.inner.Answered.{holder_from, registered, stopped, admitted};
 
@@ -29,7 +30,8 @@ impl Registry {
     }
 
     pub(crate) fn is_crowded(&self) -> bool
-        ensures { result ≡ is_crowded self.now }
+        ensures test { result ≡ is_crowded self.now }
+        ensures legal { IsLegal self.now }
     {
         self.journal.len() + self.living + 2 > MOST_ENTRIES || self.living == MOST_LIVE
     }

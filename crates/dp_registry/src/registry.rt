@@ -117,13 +117,14 @@ impl Registry {
     /// `Full` is tried first, and comes exactly where the two entries of a session have no room, or 256
     /// sessions are live. `Unknown` comes exactly where nobody holds the key, `Busy` exactly where the
     /// registration takes one session at a time and one is live under the key; it names the least.
-    /// `Full` and `Memory` change nothing; the others are noted.
+    /// `Full` and `Memory` change nothing; the others are noted. A pass names the host of the IDE.
     pub fn admit(&mut self, key: &[u8]) -> Result<Pass, Refusal>
         requires key { IsKey key.now }
         ensures verdict { IsAnswer (admit_verdict self.old key.now) result }
         ensures journal { self.new ≡ noted self.old (λ reply. entry.Admit key.now reply) (admit_reply_of result) }
         ensures lives { IfOk result (λ pass. Contains (live self.new) pass.session) }
         ensures unused { IfOk result (λ pass. IsNew self.old pass.session) }
+        ensures reached { IfOk result (λ pass. IsHost pass.host) }
     {
         if self.is_crowded() {
             return Err(self.full());
