@@ -208,11 +208,13 @@ module _ (j : List Entry) (held : List (List ℕ × ℕ)) (under : List (List �
             | inl old ↦ owned_old old
             | inr new ↦ owned_new h new
           ]
-      owned false h is = owned_old (subst (λ ns. Contains ns t) (under_same j kept.numbered k s host port next key h) is)
+      owned false h is =
+          owned_old (subst (λ ns. Contains ns t) (under_same j kept.numbered k s host port next key h) is)
 
     -- it is live then
     pub given_lives : Contains (live (j ++ Admit k (Given s host port) ∷ [])) s
-    given_lives = subst (λ ns. Contains ns s) (sym (live_more j kept.numbered k s host port next)) (Contains-push (live j) s)
+    given_lives =
+        subst (λ ns. Contains ns s) (sym (live_more j kept.numbered k s host port next)) (Contains-push (live j) s)
 
     pub kept_given : (now : List (List ℕ × List ℕ)) → IsFit j (Admit k (Given s host port)) →
         ((key : List ℕ) → sessions_of now key ≡ (if bytes_eq k key then sessions_of under key ++ s ∷ [] else
@@ -220,7 +222,8 @@ module _ (j : List Entry) (held : List (List ℕ × ℕ)) (under : List (List �
         IsKept (j ++ Admit k (Given s host port) ∷ []) held now (admissions ++ length j ∷ []) (living + 1)
     kept_given now fit more =
         let longer = length_push j e in
-        let larger : length (live (j ++ e ∷ [])) ≡ length (live j) + 1 = ap length (live_more j kept.numbered k s host port next) ∙ length_push (live j) s in
+        let larger : length (live (j ++ e ∷ [])) ≡ length (live j) + 1 =
+        ap length (live_more j kept.numbered k s host port next) ∙ length_push (live j) s in
         let space : load j + 2 ≤ most_entries = let h : nat_lt most_entries (load j + 2) ≡ false =
         or_left (nat_lt most_entries (load j + 2)) (length (live j) == most_live) free in
         grind (arith, nat_tests) in
@@ -233,8 +236,8 @@ module _ (j : List Entry) (held : List (List ℕ × ℕ)) (under : List (List �
           holders = λ key. holder_kept e key refl;
           places = place_kept e;
           sessions = λ key. more key ∙ by key now (bytes_eq k key) refl;
-          as_many = length_push admissions (length j) ∙ ap (λ n. n + 1) kept.as_many ∙ sym (ap length (given_more j kept.numbered k s host port next)
-              ∙ length_push (given j) s);
+          as_many = length_push admissions (length j) ∙ ap (λ n. n + 1) kept.as_many
+              ∙ sym (ap length (given_more j kept.numbered k s host port next) ∙ length_push (given j) s);
           owners = λ key t is. owned key t (bytes_eq k key) refl is;
           count = ap (λ n. n + 1) kept.count ∙ sym larger;
         }
@@ -242,7 +245,8 @@ module _ (j : List Entry) (held : List (List ℕ × ℕ)) (under : List (List �
         by : (key : List ℕ) (now : List (List ℕ × List ℕ)) (b : Bool) → bytes_eq k key ≡ b →
             (if bytes_eq k key then sessions_of under key ++ s ∷ [] else sessions_of under key) ≡ live_under key
             (j ++ e ∷ [])
-        by key now true h = rw h (ap (λ ns. ns ++ s ∷ []) (kept.sessions key) ∙ sym (under_more j kept.numbered k s host port next key h))
+        by key now true h = rw h (ap (λ ns. ns ++ s ∷ []) (kept.sessions key)
+            ∙ sym (under_more j kept.numbered k s host port next key h))
         by key now false h = rw h (kept.sessions key ∙ sym (under_same j kept.numbered k s host port next key h))
 
   -- ---- a session less
