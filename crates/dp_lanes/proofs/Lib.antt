@@ -2,3 +2,4 @@ pub mod DigitLaws
 pub mod RestLaws
 pub mod StreamLaws
 pub mod LaneLaws
+pub mod PassedLaws

@@ -28,7 +28,7 @@ pub splits : (kind : LaneKind) (bytes : List ℕ)
 splits Up bytes = packets_split bytes
 splits Down bytes = commands_split bytes
 
-one_split : (kind : LaneKind) (bytes : List ℕ) (texts others : List (List ℕ)) (rest remains : List ℕ)
+pub one_split : (kind : LaneKind) (bytes : List ℕ) (texts others : List (List ℕ)) (rest remains : List ℕ)
     → Splits (IsText kind) (frame kind) bytes texts rest → Splits (IsText kind) (frame kind) bytes others remains
     → (texts ≡ others) × (rest ≡ remains)
 one_split Up bytes texts others rest remains p q = one_packet_split bytes texts others rest remains p q
@@ -40,7 +40,7 @@ all_both P [] b p q = q
 all_both P (x ∷ a) b p q = (p.0, all_both P a b p.1 q)
 
 -- no whole frame begins a rest
-no_more : (kind : LaneKind) (held : List ℕ) → IsRest kind held → (text more : List ℕ) → IsText kind text
+pub no_more : (kind : LaneKind) (held : List ℕ) → IsRest kind held → (text more : List ℕ) → IsText kind text
     → held ≡ frame kind text ++ more → ⊥
 no_more Up held (inl part) text more is e = begins_partial held text more (record { is_text = is; whole = e }) part
 no_more Up held (inr none) text more is e = begins_refused held text more (record { is_text = is; whole = e }) none
@@ -71,7 +71,7 @@ module _ (kind : LaneKind) (a b : List ℕ) (texts : List (List ℕ)) (rest : Li
       one_split kind (a ++ b) (texts_in kind (a ++ b)) (texts_in kind a ++ texts) (rest_in kind (a ++ b)) rest
       (splits kind (a ++ b)) both
 
-  handed_is : handed_of kind a b ≡ flat_map (frame kind) texts
+  pub handed_is : handed_of kind a b ≡ flat_map (frame kind) texts
   handed_is =
       ap (λ t. flat_map (frame kind) (drop (length (texts_in kind a)) t)) split_on.0
       ∙ ap (flat_map (frame kind)) (drop-append_seam (texts_in kind a) texts)
