@@ -3,3 +3,4 @@ pub mod RestLaws
 pub mod StreamLaws
 pub mod LaneLaws
 pub mod PassedLaws
+pub mod GoodLaws

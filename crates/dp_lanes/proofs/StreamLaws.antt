@@ -191,12 +191,12 @@ module _ (kind : LaneKind) (old fed new : Lane) (stream bytes out : List ℕ) (f
 
 -- ---- where it is bad
 
-part_good : (kind : LaneKind) (bytes : List ℕ) → IsPart kind (rest_in kind bytes) → is_bad kind bytes ≡ false
+pub part_good : (kind : LaneKind) (bytes : List ℕ) → IsPart kind (rest_in kind bytes) → is_bad kind bytes ≡ false
 unfolding is_bad
 part_good Up bytes p = ap not (part_of_packet (rest_of_packets bytes) p)
 part_good Down bytes p = ap not (part_of_command (rest_of bytes) p)
 
-none_bad : (kind : LaneKind) (bytes : List ℕ) → BeginsNone kind (rest_in kind bytes) → is_bad kind bytes ≡ true
+pub none_bad : (kind : LaneKind) (bytes : List ℕ) → BeginsNone kind (rest_in kind bytes) → is_bad kind bytes ≡ true
 unfolding is_bad
 none_bad Up bytes none = ap not (none_of_packet (rest_of_packets bytes) none)
 none_bad Down bytes none = ap not (none_of_command (rest_of bytes) none)

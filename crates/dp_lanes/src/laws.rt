@@ -1,14 +1,17 @@
 //! What holds of a lane over its whole stream, for one that is fed with `feed` and emptied with `front` and
 //! `drop_front`: the premises of each law are what those calls promise.
-ghost use Rattle.std.specs.Prelude.{◌≡◌, ◌+◌, [], ◌++◌, List, ℕ, false, flat_map, length, min};
+ghost use Rattle.std.specs.Prelude.{◌≡◌, ◌+◌, [], ◌++◌, List, ℕ, true, false, flat_map, length, min};
+ghost use Rattle.std.specs.List.{AllByRecursion};
 ghost use Rattle.dp_wire.specs.declared.errors.WireError.{WireError as Why};
 ghost use Rattle.dp_wire.specs.Places.{refused_at};
 ghost use Rattle.dp_wire.specs.Received.{last_place};
 ghost use Rattle.dp_lanes.specs.declared.lane.Lane.{Lane as OneLane};
 ghost use Rattle.dp_lanes.specs.declared.lane.LaneKind.{LaneKind as Kind};
+ghost use Rattle.dp_lanes.specs.declared.lane.LaneKind.TheVariants.{Down};
 ghost use Rattle.dp_lanes.specs.Lanes.{frame, texts_in, is_bad};
 ghost use Rattle.dp_lanes.specs.Passed.{HasPassed, handed_in_all};
-ghost use Rattle.dp_lanes.specs.Places.{BeginsWith, BeginsNone, Causes, IsBadIn, IsPart, kind_of, received_in};
+ghost use Rattle.dp_lanes.specs.Places.{BeginsWith, BeginsNone, Causes, IsBadIn, IsPart, IsText};
+ghost use Rattle.dp_lanes.specs.Places.{kind_of, received_in};
 
 /// A new lane has passed nothing.
 pub fn new_has_passed_nothing()
@@ -60,4 +63,15 @@ pub fn passed_all_before_bad()
 pub fn handed_out_in_all()
     ensures { (kind : Kind) (pieces : List (List ℕ)) → handed_in_all kind [] pieces
         ≡ flat_map (frame kind) (texts_in kind (flat_map (λ piece. piece) pieces)) }
+{}
+
+/// A front of whole frames is not bad: where what comes in a lane is whole frames in all, the lane is never refused.
+pub fn front_of_frames_is_good()
+    ensures { (kind : Kind) (bytes more : List ℕ) (texts : List (List ℕ)) → AllByRecursion (IsText kind) texts
+        → bytes ++ more ≡ flat_map (frame kind) texts → is_bad kind bytes ≡ false }
+{}
+
+/// A stream of commands that is bad stays bad, however it goes on.
+pub fn bad_commands_stay_bad()
+    ensures { (bytes more : List ℕ) → is_bad Down bytes ≡ true → is_bad Down (bytes ++ more) ≡ true }
 {}
