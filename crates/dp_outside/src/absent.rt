@@ -207,7 +207,7 @@ impl<R: Threads + Wait + Sync + Send> Spawner for NoSpawner<R> {
         NoSpawner::new()
     }
 
-    fn start(&mut self, _hook: Hook) -> Result<(), Failed>
+    fn start(&mut self, _hook: &Hook) -> Result<(), Failed>
         ensures granted { OnOk result (self.new ≡ self.old) }
         ensures cause { HasCause self.old self.new result }
         ensures absent { IsErr result }
@@ -217,7 +217,7 @@ impl<R: Threads + Wait + Sync + Send> Spawner for NoSpawner<R> {
         Err(Failed)
     }
 
-    fn note(&mut self, _hook: Hook)
+    fn note(&mut self, _hook: &Hook)
         ensures rose { Rose self.old self.new }
         ensures later { self.old ≤ self.new }
         ensures counted { self.new ≡ one_more self.old }
@@ -225,7 +225,11 @@ impl<R: Threads + Wait + Sync + Send> Spawner for NoSpawner<R> {
         self.faults.raise();
     }
 
-    fn runtime(&self, _hook: Hook) -> Option<&R> {
+    fn runtime(&self, _hook: &Hook) -> Option<&R> {
+        None
+    }
+
+    fn stack_size(&self, _hook: &Hook) -> Option<usize> {
         None
     }
 }

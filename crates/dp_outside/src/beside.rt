@@ -3,6 +3,7 @@ ghost use Rattle.std.specs.Prelude.{◌≡◌, IfOk, IfErr};
 ghost use Rattle.dp_outside.specs.Jobs.{RanOrBack};
 
 use crate::Job;
+use core::thread::Stack;
 use std::snapshot::Snapshot;
 use std::sync::Wait;
 use std::sync::atomic::AtomicBool;
@@ -23,8 +24,17 @@ impl<J: Job> Promise<Result<J::Done, J>> for RunsOrReturns<J> {
     ghost kept_by = { λ promise answer. RanOrBack J.may_give promise.0.value answer };
 }
 
+/// A stack of so many bytes, or of as many as the system gives by itself.
+pub(crate) fn stack_of(size: Option<usize>) -> Stack {
+    match size {
+        Some(size) => Stack::new().stack_size(size),
+        None => Stack::new(),
+    }
+}
+
 /// Runs the job, or hands it back where its start was refused.
 pub(crate) fn run_unless<J: Job>(refused: &AtomicBool, job: J) -> Result<J::Done, J>
+    requires { J.may_run job }
     ensures { RanOrBack J.may_give job result }
 {
     if refused.load(SeqCst) {
@@ -37,9 +47,12 @@ pub(crate) fn run_unless<J: Job>(refused: &AtomicBool, job: J) -> Result<J::Done
 /// Runs `other` in a thread of its own beside `mine`, or neither where no thread can be started.
 pub(crate) fn run_beside<R: Threads + Wait + Sync, A: Job, B: Job + Send>(
     rt: &R,
+    size: Option<usize>,
     mine: A,
     other: B,
 ) -> Result<(A::Done, B::Done), (A, B)>
+    requires mine { A.may_run mine }
+    requires other { B.may_run other }
     ensures ok { IfOk result (λ done. A.may_give mine done.0 × B.may_give other done.1) }
     ensures err { IfErr result (λ jobs. (jobs.0 ≡ mine) × (jobs.1 ≡ other)) }
 {
@@ -49,13 +62,17 @@ pub(crate) fn run_beside<R: Threads + Wait + Sync, A: Job, B: Job + Send>(
         thread::scope_env(),
         rt,
         |scope| -> Result<(A::Done, B::Done), (A, B)>
+            requires mine { A.may_run mine }
+            requires other { B.may_run other }
             ensures ok { IfOk result (λ done. A.may_give mine done.0 × B.may_give other done.1) }
             ensures err { IfErr result (λ jobs. (jobs.0 ≡ mine) × (jobs.1 ≡ other)) }
         {
             let promise = RunsOrReturns(Snapshot::of(&other));
-            let started = scope.spawn_with(
+            let started = stack_of(size).spawn_scoped_with(
+                scope,
                 promise,
                 move || -> Result<B::Done, B>
+                    requires { B.may_run other }
                     ensures { RanOrBack B.may_give other result }
                 { run_unless(flag, other) },
             );
@@ -81,6 +98,8 @@ pub(crate) fn run_beside<R: Threads + Wait + Sync, A: Job, B: Job + Send>(
 
 /// Runs one after the other in the caller.
 pub(crate) fn run_in_turn<A: Job, B: Job>(mine: A, other: B) -> (A::Done, B::Done)
+    requires mine { A.may_run mine }
+    requires other { B.may_run other }
     ensures { A.may_give mine result.0 × B.may_give other result.1 }
 {
     let done = mine.run();

@@ -6,7 +6,7 @@ ghost use Rattle.dp_outside.specs.Jobs.{RanOrBack};
 ghost use Rattle.dp_outside.specs.Reports.{grown};
 ghost use Rattle.dp_outside.specs.inner.Threads.{Answered, Settled, Started};
 
-use crate::beside::{RunsOrReturns, run_unless};
+use crate::beside::{RunsOrReturns, run_unless, stack_of};
 use crate::jobs::Hook;
 use crate::{Job, Memory, Spawner};
 use std::alloc::Global;
@@ -46,9 +46,10 @@ pub(crate) fn ask<P: Spawner, J: Job>(
         → Rose (P.faults spawner.old) (P.faults spawner.new)) }
     ensures later { P.faults spawner.old ≤ P.faults spawner.new }
 {
+    let hook = Hook::new();
     let mut asked = Vec::with_capacity(alloc, jobs.len())?;
     for job in jobs {
-        let granted = spawner.start(Hook::new()).is_ok();
+        let granted = spawner.start(&hook).is_ok();
         asked.push(Asked { job, granted })?;
     }
     Ok(asked)
@@ -71,21 +72,24 @@ pub(crate) fn returned<D, J>(answers: &[Result<D, J>]) -> usize
 /// The answers of the jobs: each granted one is run, in a thread of its own where there are threads.
 pub(crate) fn answers_of<R: Threads + Wait + Sync, J: Job + Send>(
     rt: Option<&R>,
+    size: Option<usize>,
     alloc: Global,
     asked: Vec<Asked<J>>,
 ) -> Result<Vec<Answer<J>>, Memory>
+    requires ready { (job : _) → J.may_run job }
     ensures { IfOk result (λ answers. AllZip (λ one. Settled J.may_give one.job one.granted)
         asked.items answers.items) }
 {
     let answers = Vec::with_capacity(alloc, asked.len())?;
     match rt {
-        Some(rt) => run_crew(rt, alloc, asked, answers),
+        Some(rt) => run_crew(rt, size, alloc, asked, answers),
         None => Ok(run_each(asked, answers)),
     }
 }
 
 /// Runs a granted job in the caller.
 fn run_one<J: Job>(one: Asked<J>) -> Answer<J>
+    requires ready { (job : _) → J.may_run job }
     ensures { Settled J.may_give one.job one.granted result }
 {
     let Asked { job, granted } = one;
@@ -95,6 +99,7 @@ fn run_one<J: Job>(one: Asked<J>) -> Answer<J>
 /// Runs the granted jobs in the caller, one after another.
 #[tactic(auto, using(crate::proofs::PairedLists::zip_more))]
 fn run_each<J: Job>(asked: Vec<Asked<J>>, mut answers: Vec<Answer<J>>) -> Vec<Answer<J>>
+    requires ready { (job : _) → J.may_run job }
     requires empty { answers.items ≡ [] }
     requires room { length asked.items ≤ vec_capacity answers }
     ensures { AllZip (λ one. Settled J.may_give one.job one.granted) asked.items result.items }
@@ -108,9 +113,11 @@ fn run_each<J: Job>(asked: Vec<Asked<J>>, mut answers: Vec<Answer<J>>) -> Vec<An
 /// Starts a job in a thread of its own.
 fn start_one<'s, E, J: Job + Send + 's>(
     scope: &Scope<'s, E>,
+    size: Option<usize>,
     refused: &'s AtomicBool,
     one: Asked<J>,
 ) -> Start<J>
+    requires ready { (job : _) → J.may_run job }
     ensures { Started J.may_give (λ thread. thread.promise.0.value) one.job one.granted result }
 {
     let Asked { job, granted } = one;
@@ -118,9 +125,11 @@ fn start_one<'s, E, J: Job + Send + 's>(
         return Err(Err(job));
     }
     let promise = RunsOrReturns(Snapshot::of(&job));
-    let started = scope.spawn_with(
+    let started = stack_of(size).spawn_scoped_with(
+        scope,
         promise,
         move || -> Result<J::Done, J>
+            requires { J.may_run job }
             ensures { RanOrBack J.may_give job result }
         { run_unless(refused, job) },
     );
@@ -137,10 +146,12 @@ fn start_one<'s, E, J: Job + Send + 's>(
 #[tactic(auto, using(crate::proofs::PairedLists::zip_more))]
 fn start_each<'s, E, J: Job + Send + 's>(
     scope: &Scope<'s, E>,
+    size: Option<usize>,
     refused: &'s [AtomicBool],
     asked: Vec<Asked<J>>,
     mut started: Vec<Start<J>>,
 ) -> Vec<Start<J>>
+    requires ready { (job : _) → J.may_run job }
     requires flags { length refused.now ≡ length asked.items }
     requires empty { started.items ≡ [] }
     requires room { length asked.items ≤ vec_capacity started }
@@ -150,7 +161,7 @@ fn start_each<'s, E, J: Job + Send + 's>(
 {
     for one in asked {
         let flag = &refused[started.len()];
-        started.push_reserved(start_one(scope, flag, one));
+        started.push_reserved(start_one(scope, size, flag, one));
     }
     started
 }
@@ -197,11 +208,13 @@ fn flags(alloc: Global, count: usize) -> Result<Vec<AtomicBool>, Memory>
 fn run_scoped<'s, E, R: Threads, J: Job + Send + 's>(
     rt: &R,
     scope: &Scope<'s, E>,
+    size: Option<usize>,
     alloc: Global,
     refused: &'s [AtomicBool],
     asked: Vec<Asked<J>>,
     answers: Vec<Answer<J>>,
 ) -> Result<Vec<Answer<J>>, Memory>
+    requires ready { (job : _) → J.may_run job }
     requires flags { length refused.now ≡ length asked.items }
     requires empty { answers.items ≡ [] }
     requires room { length asked.items ≤ vec_capacity answers }
@@ -209,17 +222,19 @@ fn run_scoped<'s, E, R: Threads, J: Job + Send + 's>(
         asked.items answers.items) }
 {
     let started = Vec::with_capacity(alloc, asked.len())?;
-    let started = start_each(scope, refused, asked, started);
+    let started = start_each(scope, size, refused, asked, started);
     Ok(join_each(rt, started, answers))
 }
 
 /// Runs each granted job in a thread of its own. A job whose thread cannot be started comes back.
 fn run_crew<R: Threads + Wait + Sync, J: Job + Send>(
     rt: &R,
+    size: Option<usize>,
     alloc: Global,
     asked: Vec<Asked<J>>,
     answers: Vec<Answer<J>>,
 ) -> Result<Vec<Answer<J>>, Memory>
+    requires ready { (job : _) → J.may_run job }
     requires empty { answers.items ≡ [] }
     requires room { length asked.items ≤ vec_capacity answers }
     ensures { IfOk result (λ answers. AllZip (λ one. Settled J.may_give one.job one.granted)
@@ -231,12 +246,13 @@ fn run_crew<R: Threads + Wait + Sync, J: Job + Send>(
         thread::scope_env(),
         rt,
         |scope| -> Result<Vec<Answer<J>>, Memory>
+            requires ready { (job : _) → J.may_run job }
             requires flags { length refused.now ≡ length asked.items }
             requires empty { answers.items ≡ [] }
             requires room { length asked.items ≤ vec_capacity answers }
             ensures { IfOk result (λ answers. AllZip (λ one. Settled J.may_give one.job one.granted)
                 asked.items answers.items) }
-        { run_scoped(rt, scope, alloc, refused, asked, answers) },
+        { run_scoped(rt, scope, size, alloc, refused, asked, answers) },
     )
 }
 
@@ -247,7 +263,8 @@ pub(crate) fn note_each<P: Spawner>(spawner: &mut P, count: usize)
     ensures later { P.faults spawner.old ≤ P.faults spawner.new }
     ensures starts { P.starts spawner.new ≡ P.starts spawner.old }
 {
+    let hook = Hook::new();
     for _ in 0..count {
-        spawner.note(Hook::new());
+        spawner.note(&hook);
     }
 }

@@ -17,16 +17,21 @@ use std::thread::Threads;
 pub trait Job: Drop {
     type Done: Send + Drop;
 
+    /// Whether it may be run.
+    ghost may_run: { Self → Type 0 };
+
     /// The job's meaning: what a run of it may give.
     ghost may_give: { Self → Self.Done → Type 0 };
 
     /// Does the work.
     fn run(self) -> Self::Done
+        requires { may_run self }
         ensures { may_give self result };
 }
 
-/// Shows a hook of a spawner that it is called by `beside` or `crew`. Nothing outside this crate can make one.
-#[derive(Clone, Copy, Debug)]
+/// Shows a hook of a spawner that it is called by `beside` or `crew`. It is lent for the call alone: nothing outside
+/// this crate can make one or keep one.
+#[derive(Debug, Drop)]
 pub struct Hook {
     held: (),
 }
@@ -38,8 +43,9 @@ impl Hook {
     }
 }
 
-/// What starts jobs beside the caller. An implementation gives `twin` and the hooks `start`, `note` and `runtime`.
-pub trait Spawner: Sized + Send {
+/// What starts jobs beside the caller. An implementation gives `twin` and the hooks `start`, `note`, `runtime` and
+/// `stack_size`.
+pub trait Spawner: Sized + Send + Drop {
     type Runtime: Threads + Wait + Sync;
 
     /// How many starts were refused.
@@ -54,19 +60,23 @@ pub trait Spawner: Sized + Send {
         ensures begins { BeginsEmpty (starts result) };
 
     /// Whether the next start is granted.
-    fn start(&mut self, hook: Hook) -> Result<(), Failed>
+    fn start(&mut self, hook: &Hook) -> Result<(), Failed>
         ensures granted { OnOk result (faults self.new ≡ faults self.old) }
         ensures cause { HasCause (faults self.old) (faults self.new) result }
         ensures starts { starts self.new ≡ grown (starts self.old) (is_ok result ∷ []) };
 
     /// Counts a start that was granted and that the system refused.
-    fn note(&mut self, hook: Hook)
+    fn note(&mut self, hook: &Hook)
         ensures rose { Rose (faults self.old) (faults self.new) }
         ensures later { faults self.old ≤ faults self.new }
         ensures starts { starts self.new ≡ starts self.old };
 
     /// The threads, if there are any: without them jobs run in the caller, one after another.
-    fn runtime(&self, hook: Hook) -> Option<&Self::Runtime>;
+    fn runtime(&self, hook: &Hook) -> Option<&Self::Runtime>;
+
+    /// How many bytes the stack of each thread takes, or `None` for as many as the system gives by itself. A size that
+    /// the system does not give refuses the start.
+    fn stack_size(&self, hook: &Hook) -> Option<usize>;
 
     /// Starts `other` beside the caller, runs `mine` and gives both results. Where the start was refused, both
     /// jobs come back and neither has run. It waits.
@@ -75,6 +85,8 @@ pub trait Spawner: Sized + Send {
         mine: A,
         other: B,
     ) -> Result<(A::Done, B::Done), (A, B)>
+        requires mine { A.may_run mine }
+        requires other { B.may_run other }
         ensures ok { IfOk result (λ done. A.may_give mine done.0 × B.may_give other done.1) }
         ensures err { IfErr result (λ jobs. (jobs.0 ≡ mine) × (jobs.1 ≡ other)) }
         ensures granted { OnOk result (faults self.new ≡ faults self.old) }
@@ -82,15 +94,17 @@ pub trait Spawner: Sized + Send {
         ensures start { (granted : Bool) × (starts self.new ≡ grown (starts self.old) (granted ∷ []))
             × BackUnlessGranted granted result }
     {
-        if self.start(Hook::new()).is_err() {
+        let hook = Hook::new();
+        if self.start(&hook).is_err() {
             return Err((mine, other));
         }
-        let ran = match self.runtime(Hook::new()) {
-            Some(rt) => run_beside(rt, mine, other),
+        let size = self.stack_size(&hook);
+        let ran = match self.runtime(&hook) {
+            Some(rt) => run_beside(rt, size, mine, other),
             None => Ok(run_in_turn(mine, other)),
         };
         if ran.is_err() {
-            self.note(Hook::new());
+            self.note(&hook);
         }
         ran
     }
@@ -102,6 +116,7 @@ pub trait Spawner: Sized + Send {
         alloc: Global,
         jobs: Vec<J>,
     ) -> Result<Vec<Result<J::Done, J>>, Memory>
+        requires ready { (job : _) → J.may_run job }
         ensures answers { IfOk result (λ answers. AllZip (RanOrBack J.may_give)
             jobs.items answers.items) }
         ensures places { IfOk result (λ answers. (granted : List Bool)
@@ -115,7 +130,9 @@ pub trait Spawner: Sized + Send {
     {
         let asked = ask(self, alloc, jobs)?;
         let refused = ungranted(&asked);
-        let answers = answers_of(self.runtime(Hook::new()), alloc, asked)?;
+        let hook = Hook::new();
+        let size = self.stack_size(&hook);
+        let answers = answers_of(self.runtime(&hook), size, alloc, asked)?;
         note_each(self, returned(&answers).saturating_sub(refused));
         Ok(answers)
     }
