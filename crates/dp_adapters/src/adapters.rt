@@ -1,5 +1,5 @@
 //! Readers, writers and files as objects of the outside. They tell nothing.
-ghost use Rattle.std.specs.Prelude.{◌≡◌, ◌+◌, ◌≤◌, length, IfOk, IsErrOf, None};
+ghost use Rattle.std.specs.Prelude.{◌≡◌, ◌+◌, ◌≤◌, length, IfOk, IsErrOf, None, OnOk};
 ghost use Rattle.std.specs.Io.KnownBytes.{ReadConsumes};
 ghost use Rattle.dp_outside.specs.Causes.{HasCause, Rose};
 ghost use Rattle.dp_outside.specs.Streams.{PutAppends};
@@ -15,8 +15,8 @@ use std::io::{ErrorKind, Read, Write};
 /// an interruption, after which it reads again.
 #[derive(Drop)]
 pub struct ReaderSource<R> {
-    pub inner: R,
-    pub faults: Faults,
+    inner: R,
+    faults: Faults,
 }
 
 impl<R> ReaderSource<R> {
@@ -29,6 +29,13 @@ impl<R> ReaderSource<R> {
             inner,
             faults: Faults::new(),
         }
+    }
+
+    /// How often it has failed.
+    pub fn faults(&self) -> u64
+        ensures { result ≡ self.now.faults }
+    {
+        self.faults.count()
     }
 }
 
@@ -43,6 +50,7 @@ impl<R: Read> Source for ReaderSource<R> {
 
     fn take(&mut self, buf: &mut [u8]) -> Result<usize, Failed>
         ensures bound { IfOk result (λ count. count ≤ length buf.new) }
+        ensures held { OnOk result (self.new.faults ≡ self.old.faults) }
         ensures cause { HasCause self.old.faults self.new.faults result }
 
         // What it gives are the reader's bytes.
@@ -65,8 +73,8 @@ impl<R: Read> Source for ReaderSource<R> {
 /// ends when its owner drops it. A link's sink ends the link in both directions.
 #[derive(Drop)]
 pub struct WriterSink<W> {
-    pub inner: W,
-    pub faults: Faults,
+    inner: W,
+    faults: Faults,
 }
 
 impl<W> WriterSink<W> {
@@ -80,6 +88,21 @@ impl<W> WriterSink<W> {
             faults: Faults::new(),
         }
     }
+
+    /// How often it has failed.
+    pub fn faults(&self) -> u64
+        ensures { result ≡ self.now.faults }
+    {
+        self.faults.count()
+    }
+
+    /// The writer.
+    pub fn into_inner(self) -> W
+        ensures { result ≡ self.inner }
+    {
+        let WriterSink { inner, faults: _ } = self;
+        inner
+    }
 }
 
 impl<W: Write> Sink for WriterSink<W> {
@@ -88,6 +111,7 @@ impl<W: Write> Sink for WriterSink<W> {
     ghost faults = { λ s. s.faults };
 
     fn put(&mut self, bytes: &[u8]) -> Result<(), Failed>
+        ensures held { OnOk result (self.new.faults ≡ self.old.faults) }
         ensures cause { HasCause self.old.faults self.new.faults result }
 
         // What it takes goes to the writer.
@@ -110,8 +134,8 @@ impl<W: Write> Sink for WriterSink<W> {
 /// the name and that there is no memory.
 #[derive(Drop)]
 pub struct FileShelf<F> {
-    pub files: F,
-    pub faults: Faults,
+    files: F,
+    faults: Faults,
 }
 
 impl<F> FileShelf<F> {
@@ -124,6 +148,13 @@ impl<F> FileShelf<F> {
             files,
             faults: Faults::new(),
         }
+    }
+
+    /// How often it has failed.
+    pub fn faults(&self) -> u64
+        ensures { result ≡ self.now.faults }
+    {
+        self.faults.count()
     }
 }
 

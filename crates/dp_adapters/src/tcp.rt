@@ -1,102 +1,70 @@
 //! Links and gates over TCP. They tell nothing, and each count rises where a call fails.
-ghost use Rattle.std.specs.Prelude.{◌≡◌, IfOk, None};
+ghost use Rattle.std.specs.Prelude.{◌≡◌, IfOk, IfSome, None};
 
-use crate::ReaderSource;
-use crate::transfers::write_whole;
-use dp_outside::{Dialer, Failed, Faults, Gate, Host, Net, Sink};
-use std::alloc::Global;
+use crate::streams::halves;
+use crate::{TcpSink, TcpSource};
+use arrayvec::ArrayString;
+use dp_outside::{Dialer, Failed, Faults, Gate, HOST_LIMIT, Host, Net};
+use std::fmt::Write;
 use std::io::ErrorKind;
-use std::net::{IpAddr, Ipv4Addr, Net as Sockets, Shutdown, TcpListener, TcpStream};
+use std::net::{IpAddr, Ipv4Addr, Net as Sockets, TcpListener, TcpStream};
 use std::str;
+use std::time::Duration;
 
-/// A sink over one handle of a stream; the link's source has the other. A put is one write, as long as the system takes
-/// all at once, and is sent without delay.
-#[derive(Drop)]
-pub struct TcpSink {
-    pub stream: TcpStream,
-    pub faults: Faults,
-}
-
-impl Sink for TcpSink {
-    ghost taken = { λ _. None };
-
-    ghost faults = { λ s. s.faults };
-
-    fn put(&mut self, bytes: &[u8]) -> Result<(), Failed> {
-        let put = write_whole(&mut self.stream, bytes);
-        if put.is_err() {
-            self.faults.raise();
-        }
-        put
-    }
-
-    /// Shuts the link down in both directions: the peer reads an end, and so does the link's own source.
-    fn finish(&mut self) {
-        let _ = self.stream.shutdown(Shutdown::Both);
-    }
-}
-
-/// The source and the sink of a stream, over two handles of it, which sends without delay.
-fn halves(stream: TcpStream) -> Result<(ReaderSource<TcpStream>, TcpSink), Failed>
-    ensures source { IfOk result (λ link. link.0.faults ≡ 0) }
-    ensures sink { IfOk result (λ link. link.1.faults ≡ 0) }
-{
-    if stream.set_nodelay(true).is_err() {
-        return Err(Failed);
-    }
-    let Ok(other) = stream.try_clone() else {
-        return Err(Failed);
-    };
-    let sink = TcpSink {
-        stream: other,
-        faults: Faults::new(),
-    };
-    Ok((ReaderSource::new(stream), sink))
-}
-
-/// A link to the host, where it takes one.
+/// A link to the host, where it takes one. A stream that the system joined to itself, since it gave it the very port
+/// that it dials, is no link.
 fn connect<R: Sockets<Listener = TcpListener, Stream = TcpStream>>(
     rt: &R,
     host: &Host,
     port: u16,
-) -> Result<(ReaderSource<TcpStream>, TcpSink), Failed>
+) -> Result<(TcpSource, TcpSink), Failed>
     ensures source { IfOk result (λ link. link.0.faults ≡ 0) }
     ensures sink { IfOk result (λ link. link.1.faults ≡ 0) }
 {
     let Ok(name) = str::from_utf8(host.text()) else {
         return Err(Failed);
     };
-    match TcpStream::connect(rt, (name, port)) {
-        Ok(stream) => halves(stream),
-        Err(_) => Err(Failed),
+    let Ok(stream) = TcpStream::connect(rt, (name, port)) else {
+        return Err(Failed);
+    };
+    match (stream.local_addr(), stream.peer_addr()) {
+        (Ok(near), Ok(far)) if near != far => halves(stream, None),
+        _ => Err(Failed),
     }
 }
 
-/// The name of a peer: its address as text.
-fn host_of(alloc: Global, address: IpAddr) -> Result<Host, Failed> {
-    match address.to_string(alloc) {
-        Ok(text) => match Host::of(text.as_bytes()) {
-            Some(host) => Ok(host),
-            None => Err(Failed),
-        },
-        Err(_) => Err(Failed),
+/// The name of a peer: its address as text. Takes no memory.
+fn host_of(address: IpAddr) -> Option<Host> {
+    let mut text: ArrayString<HOST_LIMIT> = ArrayString::new();
+    if write!(text, "{address}").is_err() {
+        return None;
+    }
+    Host::of(text.as_bytes())
+}
+
+/// The link of a stream that came, and the host at its other end. `None` where it cannot be used.
+fn set_up(stream: TcpStream, address: IpAddr, limit: Duration) -> Option<(TcpSource, TcpSink, Host)>
+    ensures source { IfSome result (λ link. link.0.faults ≡ 0) }
+    ensures sink { IfSome result (λ link. link.1.faults ≡ 0) }
+{
+    match (host_of(address), halves(stream, Some(limit))) {
+        (Some(host), Ok((source, sink))) => Some((source, sink, host)),
+        _ => None,
     }
 }
 
-/// The next link at a listener. It waits again where a signal interrupts it, and where a peer was gone before its turn.
-fn next_link(
-    alloc: Global,
-    listener: &TcpListener,
-) -> Result<(ReaderSource<TcpStream>, TcpSink, Host), Failed>
+/// The next link at a listener that can be used. It waits again where a signal interrupts it, where a peer was gone
+/// before its turn, and where a link cannot be set up, which it drops. An error of the listener itself is the failure.
+fn next_link(listener: &TcpListener, limit: Duration) -> Result<(TcpSource, TcpSink, Host), Failed>
     ensures source { IfOk result (λ link. link.0.faults ≡ 0) }
     ensures sink { IfOk result (λ link. link.1.faults ≡ 0) }
 {
     'tries: for _ in 0..u64::MAX {
         match listener.accept() {
             Ok((stream, address)) => {
-                let host = host_of(alloc, address.ip())?;
-                let (source, sink) = halves(stream)?;
-                return Ok((source, sink, host));
+                if let Some(link) = set_up(stream, address.ip(), limit) {
+                    return Ok(link);
+                }
             }
             Err(e) => {
                 if e.kind() != ErrorKind::Interrupted && e.kind() != ErrorKind::ConnectionAborted {
@@ -108,18 +76,28 @@ fn next_link(
     Err(Failed)
 }
 
-/// A gate at a port of this machine, on each of its IPv4 addresses.
+/// A gate at a port of this machine, on each of its IPv4 addresses. A link of it that gives no byte within the limit
+/// that the network was made with fails. A link that cannot be set up is dropped, and the next one is waited for.
 #[derive(Drop)]
 pub struct TcpGate {
-    alloc: Global,
     listener: TcpListener,
-    pub port: u16,
-    pub faults: Faults,
-    pub returned: Faults,
+    limit: Duration,
+    port: u16,
+    faults: Faults,
+    returned: Faults,
+}
+
+impl TcpGate {
+    /// How often it has failed.
+    pub fn faults(&self) -> u64
+        ensures { result ≡ self.now.faults }
+    {
+        self.faults.count()
+    }
 }
 
 impl Gate for TcpGate {
-    type In = ReaderSource<TcpStream>;
+    type In = TcpSource;
 
     type Out = TcpSink;
 
@@ -129,20 +107,22 @@ impl Gate for TcpGate {
 
     ghost port = { λ g. g.port };
 
+    ghost accepts = { λ _. None };
+
     ghost accepted = { λ _. None };
 
     ghost retired = { λ _. None };
 
-    fn accept(&mut self) -> Result<(ReaderSource<TcpStream>, TcpSink, Host), Failed> {
-        let link = next_link(self.alloc, &self.listener);
+    fn accept(&mut self) -> Result<(TcpSource, TcpSink, Host), Failed> {
+        let link = next_link(&self.listener, self.limit);
         if link.is_err() {
             self.faults.raise();
         }
         link
     }
 
-    fn retire(&mut self, source: ReaderSource<TcpStream>, sink: TcpSink) {
-        if source.faults.count() != 0 || sink.faults.count() != 0 {
+    fn retire(&mut self, source: TcpSource, sink: TcpSink) {
+        if source.faults() != 0 || sink.faults() != 0 {
             self.returned.raise();
         }
     }
@@ -153,8 +133,8 @@ impl Gate for TcpGate {
             return Err(Failed);
         };
         Ok(TcpGate {
-            alloc: self.alloc,
             listener,
+            limit: self.limit,
             port: self.port,
             faults: Faults::new(),
             returned: Faults::new(),
@@ -165,29 +145,50 @@ impl Gate for TcpGate {
 /// The network over TCP.
 #[derive(Drop)]
 pub struct TcpNet<'r, R> {
-    alloc: Global,
     rt: &'r R,
-    pub faults: Faults,
-    pub returned: Faults,
+    limit: Duration,
+    faults: Faults,
+    returned: Faults,
 }
 
 impl<'r, R> TcpNet<'r, R> {
-    /// The network of this runtime. No call has failed yet.
-    pub fn new(alloc: Global, rt: &'r R) -> Self
+    /// The network of this runtime. No call has failed yet. A link that a gate gives fails where a take waits longer
+    /// than `limit` for its first byte; a `limit` of 0 counts as a nanosecond, and the system may round up to its own
+    /// units.
+    pub fn new(rt: &'r R, limit: Duration) -> Self
         ensures faults { result.faults ≡ 0 }
         ensures returned { result.returned ≡ 0 }
     {
+        let limit = if limit.is_zero() {
+            Duration::from_nanos(1)
+        } else {
+            limit
+        };
         TcpNet {
-            alloc,
             rt,
+            limit,
             faults: Faults::new(),
             returned: Faults::new(),
         }
     }
+
+    /// How often it has failed.
+    pub fn faults(&self) -> u64
+        ensures { result ≡ self.now.faults }
+    {
+        self.faults.count()
+    }
+
+    /// How often a link or a gate came back that had failed.
+    pub fn returned(&self) -> u64
+        ensures { result ≡ self.now.returned }
+    {
+        self.returned.count()
+    }
 }
 
 impl<'r, R: Sockets<Listener = TcpListener, Stream = TcpStream> + Sync> Dialer for TcpNet<'r, R> {
-    type In = ReaderSource<TcpStream>;
+    type In = TcpSource;
 
     type Out = TcpSink;
 
@@ -199,11 +200,7 @@ impl<'r, R: Sockets<Listener = TcpListener, Stream = TcpStream> + Sync> Dialer f
 
     ghost retired = { λ _. None };
 
-    fn dial(
-        &mut self,
-        host: &Host,
-        port: u16,
-    ) -> Result<(ReaderSource<TcpStream>, TcpSink), Failed> {
+    fn dial(&mut self, host: &Host, port: u16) -> Result<(TcpSource, TcpSink), Failed> {
         let link = connect(self.rt, host, port);
         if link.is_err() {
             self.faults.raise();
@@ -211,14 +208,14 @@ impl<'r, R: Sockets<Listener = TcpListener, Stream = TcpStream> + Sync> Dialer f
         link
     }
 
-    fn retire(&mut self, source: ReaderSource<TcpStream>, sink: TcpSink) {
-        if source.faults.count() != 0 || sink.faults.count() != 0 {
+    fn retire(&mut self, source: TcpSource, sink: TcpSink) {
+        if source.faults() != 0 || sink.faults() != 0 {
             self.returned.raise();
         }
     }
 
     fn twin(&mut self) -> Result<Self, Failed> {
-        Ok(TcpNet::new(self.alloc, self.rt))
+        Ok(TcpNet::new(self.rt, self.limit))
     }
 }
 
@@ -236,6 +233,8 @@ fn listen<R: Sockets<Listener = TcpListener, Stream = TcpStream>>(
 impl<'r, R: Sockets<Listener = TcpListener, Stream = TcpStream> + Sync> Net for TcpNet<'r, R> {
     type Door = TcpGate;
 
+    ghost asked_gates = { λ _. None };
+
     ghost shut_doors = { λ _. None };
 
     fn gate(&mut self, port: u16) -> Result<TcpGate, Failed> {
@@ -244,8 +243,8 @@ impl<'r, R: Sockets<Listener = TcpListener, Stream = TcpStream> + Sync> Net for 
             return Err(Failed);
         };
         Ok(TcpGate {
-            alloc: self.alloc,
             listener,
+            limit: self.limit,
             port,
             faults: Faults::new(),
             returned: Faults::new(),

@@ -1,5 +1,5 @@
 -- What contracts see of the dialers, gates and nets in memory.
-use Rattle.std.specs.Prelude.{◌≡◌, ℕ, List, [], ◌∷◌, All, Some}
+use Rattle.std.specs.Prelude.{◌≡◌, ℕ, Bool, List, [], ◌∷◌, All, Some}
 use Rattle.dp_outside.specs.Fakes.{Plan, SinkState, SourceState, first_plan}
 use Rattle.dp_outside.specs.Links.{Dial, Door, Link}
 
@@ -96,6 +96,7 @@ pub record GateState : Type 0 where
   pub plan : Plan
   pub parts : List GatePartState
   pub returned : ℕ
+  pub accepts : List Bool
   pub accepted : List Link
   pub retired : List Link
 
@@ -104,10 +105,11 @@ abbrev pub door_seen : GateState → Door
 door_seen gate =
     record { port = gate.port; accepted = Some gate.accepted; retired = Some gate.retired }
 
--- nothing has failed, nothing came back that had, and nothing was given or came back
+-- nothing has failed, nothing came back that had, and nothing was asked for, given or came back
 pub record IsFreshGate (gate : GateState) : Type 0 where
   pub faults : gate.plan.faults ≡ 0
   pub returned : gate.returned ≡ 0
+  pub accepts : gate.accepts ≡ []
   pub accepted : gate.accepted ≡ []
   pub retired : gate.retired ≡ []
 
@@ -119,6 +121,7 @@ gate_of port part parts =
       plan = first_plan part.fails;
       parts = parts;
       returned = 0;
+      accepts = [];
       accepted = [];
       retired = [];
     }
@@ -140,11 +143,12 @@ pub record IsFreshPart (part : NetPartState) : Type 0 where
   pub gates : All IsFreshGate part.gates
 
 -- a net in memory: the dialer in it, whose twins get nothing; the gates that are left, what its
--- twins get, and the gates that were shut
+-- twins get, the gates that it was asked for, and those that were shut
 pub record NetState : Type 0 where
   pub dialer : DialerState
   pub gates : List GateState
   pub parts : List NetPartState
+  pub asked_gates : List (ℕ × Bool)
   pub shut_doors : List Door
 
 abbrev pub net_of : NetPartState → List NetPartState → NetState
@@ -153,6 +157,7 @@ net_of part parts =
       dialer = dialer_of (record { links = part.links; fails = part.fails }) [];
       gates = part.gates;
       parts = parts;
+      asked_gates = [];
       shut_doors = [];
     }
 

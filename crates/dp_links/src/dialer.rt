@@ -16,10 +16,9 @@ ghost use Rattle.dp_links.specs.Fakes.{
   link_seen,
 };
 
-use crate::ghost_list::GhostList;
 use crate::links::have_failed;
 use dp_outside::{
-    ByteSink, ByteSource, Dialer, FailPlan, Failed, Faults, Host, Memory, Sink, Source,
+    ByteSink, ByteSource, Dialer, FailPlan, Failed, Faults, GhostList, Host, Memory, Sink, Source,
 };
 use std::alloc::Global;
 use std::marker::Model;

@@ -1,6 +1,6 @@
 //! A gate in memory, which gives the links that it was made with.
 ghost use Rattle.std.specs.Prelude.{◌≡◌, ◌↔◌, ◌⊎◌, ◌+◌, ◌<◌, ◌≤◌, ◌∷◌, ◌++◌, [], All, if◌then◌else◌, IfOk};
-ghost use Rattle.std.specs.Prelude.{OnErr, IsErr, IsOk, IsTrue, Some, is_err, map};
+ghost use Rattle.std.specs.Prelude.{OnErr, IsErr, IsOk, IsTrue, Some, is_err, is_ok, map};
 ghost use Rattle.std.specs.Option.{option_to_list};
 ghost use Rattle.dp_outside.specs.Causes.{HasCause};
 ghost use Rattle.dp_outside.specs.Fakes.{after_call, is_due};
@@ -18,10 +18,9 @@ ghost use Rattle.dp_links.specs.Fakes.{
   link_seen,
 };
 
-use crate::ghost_list::GhostList;
 use crate::links::have_failed;
 use dp_outside::{
-    ByteSink, ByteSource, FailPlan, Failed, Faults, Gate, Host, Memory, Sink, Source,
+    ByteSink, ByteSource, FailPlan, Failed, Faults, Gate, GhostList, Host, Memory, Sink, Source,
 };
 use std::alloc::Global;
 use std::marker::Model;
@@ -57,7 +56,7 @@ pub struct ListGate {
 }
 
 impl Model for ListGate {
-    ghost use Rattle.std.specs.Prelude.{All, flat_map, map};
+    ghost use Rattle.std.specs.Prelude.{All, flat_map, is_ok, map};
     ghost use Rattle.std.specs.Option.{option_to_list};
     ghost use Rattle.std.specs.Vec.Iter.{into_iter_items};
     ghost use Rattle.dp_outside.specs.Links.{made};
@@ -71,6 +70,7 @@ impl Model for ListGate {
       plan = d.plan;
       parts = into_iter_items d.parts;
       returned = d.returned;
+      accepts = map (λ t. is_ok t.0) d.accepted.items;
       accepted = flat_map (λ t. option_to_list (made call_seen t.0)) d.accepted.items;
       retired = map (λ t. link_seen (t.0, t.1.0)) d.retired.items;
     } };
@@ -176,6 +176,8 @@ impl Gate for ListGate {
 
     ghost port = { λ d. d.port };
 
+    ghost accepts = { λ d. Some d.accepts };
+
     ghost accepted = { λ d. Some d.accepted };
 
     ghost retired = { λ d. Some d.retired };
@@ -185,6 +187,7 @@ impl Gate for ListGate {
         ensures sink { IfOk result (λ link. link.1.plan.faults ≡ 0) }
         ensures unread { IfOk result (λ link. link.0.tape.given ≡ []) }
         ensures cause { HasCause self.old.plan.faults self.new.plan.faults result }
+        ensures accepts { self.new.accepts ≡ self.old.accepts ++ (is_ok result ∷ []) }
         ensures accepted { self.new.accepted ≡ self.old.accepted ++ option_to_list (made call_seen result) }
         ensures port { self.new.port ≡ self.old.port }
         ensures returned { self.new.returned ≡ self.old.returned }
@@ -207,6 +210,7 @@ impl Gate for ListGate {
         ensures returned { CountsReturned (source.plan.faults + sink.plan.faults) self.old.returned self.new.returned }
         ensures later { self.old.returned ≤ self.new.returned }
         ensures port { self.new.port ≡ self.old.port }
+        ensures accepts { self.new.accepts ≡ self.old.accepts }
         ensures accepted { self.new.accepted ≡ self.old.accepted }
         ensures retired { self.new.retired ≡ self.old.retired ++ (link_seen (source, sink) ∷ []) }
         ensures links { self.new.links ≡ self.old.links }
@@ -223,11 +227,13 @@ impl Gate for ListGate {
         ensures fresh { IfOk result (λ twin. twin.plan.faults ≡ 0) }
         ensures fresh_returned { IfOk result (λ twin. twin.returned ≡ 0) }
         ensures same_port { IfOk result (λ twin. twin.port ≡ self.old.port) }
+        ensures fresh_accepts { IfOk result (λ twin. twin.accepts ≡ []) }
         ensures fresh_accepted { IfOk result (λ twin. twin.accepted ≡ []) }
         ensures fresh_retired { IfOk result (λ twin. twin.retired ≡ []) }
         ensures cause { HasCause self.old.plan.faults self.new.plan.faults result }
         ensures returned { self.new.returned ≡ self.old.returned }
         ensures port { self.new.port ≡ self.old.port }
+        ensures accepts { self.new.accepts ≡ self.old.accepts }
         ensures accepted { self.new.accepted ≡ self.old.accepted }
         ensures retired { self.new.retired ≡ self.old.retired }
 

@@ -3,7 +3,6 @@
 
 mod dialer;
 mod gate;
-mod ghost_list;
 mod links;
 mod net;
 

@@ -1,6 +1,6 @@
 //! A net in memory, which gives the links and gates that it was made with.
 ghost use Rattle.std.specs.Prelude.{◌≡◌, ◌↔◌, ◌⊎◌, ◌+◌, ◌≤◌, ◌∷◌, ◌++◌, [], All, if◌then◌else◌, IfOk, OnErr, IsErr};
-ghost use Rattle.std.specs.Prelude.{IsOk, IsTrue, Some, is_err, IfSome, IsNone};
+ghost use Rattle.std.specs.Prelude.{IsOk, IsTrue, Some, is_err, is_ok, IfSome, IsNone};
 ghost use Rattle.std.specs.Vec.Iter.{into_iter_items};
 ghost use Rattle.dp_outside.specs.Causes.{HasCause};
 ghost use Rattle.dp_outside.specs.Fakes.{after_call, is_due};
@@ -17,9 +17,8 @@ ghost use Rattle.dp_links.specs.Fakes.{
   link_seen,
 };
 
-use crate::ghost_list::GhostList;
 use crate::{DialPart, ListDialer, ListGate};
-use dp_outside::{ByteSink, ByteSource, Dialer, Failed, Host, Memory, Net};
+use dp_outside::{ByteSink, ByteSource, Dialer, Failed, GhostList, Host, Memory, Net};
 use std::alloc::Global;
 use std::marker::Model;
 use std::vec::IntoIter;
@@ -52,6 +51,7 @@ pub struct ListNet {
     dialer: ListDialer,
     gates: IntoIter<ListGate, Global>,
     parts: IntoIter<NetPart, Global>,
+    requested: GhostList<u16, bool, ()>,
     shut: GhostList<ListGate, (), ()>,
 }
 
@@ -66,6 +66,7 @@ impl Model for ListNet {
       dialer = n.dialer;
       gates = into_iter_items n.gates;
       parts = into_iter_items n.parts;
+      asked_gates = map (λ t. (t.0, t.1.0)) n.requested.items;
       shut_doors = map (λ t. door_seen t.0) n.shut.items;
     } };
 
@@ -101,6 +102,7 @@ impl ListNet {
             dialer: ListDialer::of(alloc, dialled, none.into_iter()),
             gates: part.gates.into_iter(),
             parts,
+            requested: GhostList::new(),
             shut: GhostList::new(),
         }
     }
@@ -112,9 +114,34 @@ impl ListNet {
         ensures fresh { IfSome result IsFreshGate }
         ensures dialer { self.new.dialer ≡ self.old.dialer }
         ensures parts { self.new.parts ≡ self.old.parts }
+        ensures requested { self.new.asked_gates ≡ self.old.asked_gates }
         ensures shut { self.new.shut_doors ≡ self.old.shut_doors }
     {
         self.gates.next()
+    }
+
+    /// The next gate at this port, where one is left and the call does not fail.
+    fn open(&mut self, port: u16) -> Result<ListGate, Failed>
+        ensures cause { HasCause self.old.dialer.plan.faults self.new.dialer.plan.faults result }
+        ensures due { IsErr result ↔ (IsTrue (is_due self.old.dialer.plan) ⊎ (self.old.gates ≡ [])) }
+        ensures fresh { IfOk result IsFreshGate }
+        ensures after { self.new.dialer ≡ record self.old.dialer {
+          plan = after_call self.old.dialer.plan (is_err result);
+        } }
+        ensures gives { IfOk result (λ door. door ≡ record (first_part door self.old.gates) { port = port }) }
+        ensures gates { self.new.gates ≡ (if is_err result then self.old.gates else later_parts self.old.gates) }
+        ensures parts { self.new.parts ≡ self.old.parts }
+        ensures requested { self.new.asked_gates ≡ self.old.asked_gates }
+        ensures shut { self.new.shut_doors ≡ self.old.shut_doors }
+    {
+        self.dialer.call()?;
+        match self.next_gate() {
+            Some(door) => Ok(door.at(port)),
+            None => {
+                self.dialer.fault();
+                Err(Failed)
+            }
+        }
     }
 }
 
@@ -161,6 +188,7 @@ impl Dialer for ListNet {
         } ∷ []) }
         ensures returned { self.new.dialer.returned ≡ self.old.dialer.returned }
         ensures retired { self.new.dialer.retired ≡ self.old.dialer.retired }
+        ensures requested { self.new.asked_gates ≡ self.old.asked_gates }
         ensures shut { self.new.shut_doors ≡ self.old.shut_doors }
 
         // It fails exactly where its plan says so or no link is left, and gives the next.
@@ -181,6 +209,7 @@ impl Dialer for ListNet {
         ensures later { self.old.dialer.returned ≤ self.new.dialer.returned }
         ensures dials { self.new.dialer.dials ≡ self.old.dialer.dials }
         ensures retired { self.new.dialer.retired ≡ self.old.dialer.retired ++ (link_seen (source, sink) ∷ []) }
+        ensures requested { self.new.asked_gates ≡ self.old.asked_gates }
         ensures shut { self.new.shut_doors ≡ self.old.shut_doors }
         ensures links { self.new.dialer.links ≡ self.old.dialer.links }
         ensures plan { self.new.dialer.plan ≡ self.old.dialer.plan }
@@ -199,6 +228,7 @@ impl Dialer for ListNet {
         ensures after { self.new.dialer ≡ record self.old.dialer {
           plan = after_call self.old.dialer.plan (is_err result);
         } }
+        ensures requested { self.new.asked_gates ≡ self.old.asked_gates }
         ensures shut { self.new.shut_doors ≡ self.old.shut_doors }
 
         // It fails exactly where its plan says so, and gives away the next part.
@@ -217,15 +247,19 @@ impl Dialer for ListNet {
 impl Net for ListNet {
     type Door = ListGate;
 
+    ghost asked_gates = { λ n. Some n.asked_gates };
+
     ghost shut_doors = { λ n. Some n.shut_doors };
 
     fn gate(&mut self, port: u16) -> Result<ListGate, Failed>
         ensures fresh { IfOk result (λ door. door.plan.faults ≡ 0) }
         ensures fresh_returned { IfOk result (λ door. door.returned ≡ 0) }
         ensures port { IfOk result (λ door. door.port ≡ port) }
+        ensures fresh_accepts { IfOk result (λ door. door.accepts ≡ []) }
         ensures fresh_accepted { IfOk result (λ door. door.accepted ≡ []) }
         ensures fresh_retired { IfOk result (λ door. door.retired ≡ []) }
         ensures cause { HasCause self.old.dialer.plan.faults self.new.dialer.plan.faults result }
+        ensures requested { self.new.asked_gates ≡ self.old.asked_gates ++ ((port, is_ok result) ∷ []) }
         ensures shut { self.new.shut_doors ≡ self.old.shut_doors }
 
         // It fails exactly where its plan says so or no gate is left, and gives the next, at the port that was asked
@@ -238,14 +272,9 @@ impl Net for ListNet {
         ensures gates { self.new.gates ≡ (if is_err result then self.old.gates else later_parts self.old.gates) }
         ensures parts { self.new.parts ≡ self.old.parts }
     {
-        self.dialer.call()?;
-        match self.next_gate() {
-            Some(door) => Ok(door.at(port)),
-            None => {
-                self.dialer.fault();
-                Err(Failed)
-            }
-        }
+        let result = self.open(port);
+        self.requested = self.requested.with(&port, &result.is_ok(), &());
+        result
     }
 
     fn shut(&mut self, door: ListGate)
@@ -253,6 +282,7 @@ impl Net for ListNet {
         ensures returned { CountsReturned (door.plan.faults + door.returned)
             self.old.dialer.returned self.new.dialer.returned }
         ensures later { self.old.dialer.returned ≤ self.new.dialer.returned }
+        ensures requested { self.new.asked_gates ≡ self.old.asked_gates }
         ensures shut { self.new.shut_doors ≡ self.old.shut_doors ++ (door_seen door ∷ []) }
         ensures same { self.new.dialer ≡ record self.old.dialer { returned = self.new.dialer.returned } }
         ensures gates { self.new.gates ≡ self.old.gates }

@@ -2,3 +2,4 @@ mod GrownLists
 pub mod NameLaws
 mod PairedLists
 mod Places
+mod Walks

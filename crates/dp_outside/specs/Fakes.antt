@@ -77,3 +77,8 @@ pub record ShelfState : Type 0 where
 pub record SureShelfState : Type 0 where
   pub files : List (List ℕ × List ℕ)
   pub fetched : List (List ℕ)
+
+-- a spawner in memory: which starts it refuses, and of each start so far whether it was granted
+pub record TurnState : Type 0 where
+  pub plan : Plan
+  pub starts : List Bool

@@ -79,6 +79,8 @@ impl Dialer for NoNet {
 impl Net for NoNet {
     type Door = NoGate;
 
+    ghost asked_gates = { λ _. None };
+
     ghost shut_doors = { λ _. None };
 
     fn gate(&mut self, _port: u16) -> Result<NoGate, Failed>
@@ -138,6 +140,8 @@ impl Gate for NoGate {
 
     // It is at no port: no gate of it was ever given.
     ghost port = { λ _. 0 };
+
+    ghost accepts = { λ _. None };
 
     ghost accepted = { λ _. None };
 

@@ -8,6 +8,7 @@ mod bytes;
 mod counts;
 mod crews;
 mod files;
+mod ghost_list;
 mod graphic_names;
 mod hosts;
 mod items;
@@ -22,10 +23,12 @@ mod sinks;
 mod sources;
 mod sure;
 mod tapes;
+mod turns;
 
 pub use absent::{NoGate, NoNet, NoSpawner};
 pub use bytes::Bytes1;
 pub use counts::Faults;
+pub use ghost_list::GhostList;
 pub use graphic_names::{HOST_LIMIT, KEY_LIMIT, is_name};
 pub use hosts::Host;
 pub use items::ItemJob;
@@ -39,6 +42,7 @@ pub use sinks::Sink;
 pub use sources::Source;
 pub use sure::{SureByteSink, SureByteSource, SureMapShelf};
 use thiserror::Error;
+pub use turns::TurnSpawner;
 
 /// Out of memory: an allocation was refused.
 pub use std::alloc::AllocError as Memory;

@@ -1,5 +1,5 @@
 //! Links to other machines: who makes them, and who takes those that others make.
-ghost use Rattle.std.specs.Prelude.{◌≡◌, ◌+◌, ◌≤◌, ◌∷◌, [], ℕ, List, IfOk};
+ghost use Rattle.std.specs.Prelude.{◌≡◌, ◌+◌, ◌≤◌, ◌∷◌, [], ℕ, Bool, List, IfOk, is_ok};
 ghost use Rattle.std.specs.declared.option.Option.{Option};
 ghost use Rattle.std.specs.Option.{option_to_list};
 ghost use Rattle.dp_outside.specs.Causes.{HasCause};
@@ -77,6 +77,9 @@ pub trait Gate: Sized + Send + Drop {
     /// The port that others ask for. It never changes.
     ghost port: { Self → ℕ };
 
+    /// Of each link that it was asked for so far, in order, whether it gave one, where it tells that.
+    ghost accepts: { Self → Option (List Bool) };
+
     /// The links that it has given so far, in order, as they reported when they were given, where it tells that.
     ghost accepted: { Self → Option (List Link) };
 
@@ -90,6 +93,7 @@ pub trait Gate: Sized + Send + Drop {
         ensures sink { IfOk result (λ link. Self.Out.faults link.1 ≡ 0) }
         ensures unread { IfOk result (λ link. BeginsEmpty (Self.In.given link.0)) }
         ensures cause { HasCause (faults self.old) (faults self.new) result }
+        ensures accepts { accepts self.new ≡ grown (accepts self.old) (is_ok result ∷ []) }
         ensures accepted { accepted self.new ≡ grown (accepted self.old)
             (option_to_list (made (λ three. link Self.In.Source Self.Out.Sink three.0 three.1) result)) }
         ensures returned { returned self.new ≡ returned self.old }
@@ -103,6 +107,7 @@ pub trait Gate: Sized + Send + Drop {
             (returned self.new) }
         ensures later { returned self.old ≤ returned self.new }
         ensures port { port self.new ≡ port self.old }
+        ensures accepts { accepts self.new ≡ accepts self.old }
         ensures accepted { accepted self.new ≡ accepted self.old }
         ensures retired { retired self.new
             ≡ grown (retired self.old) (link Self.In.Source Self.Out.Sink source sink ∷ []) };
@@ -112,11 +117,13 @@ pub trait Gate: Sized + Send + Drop {
         ensures fresh { IfOk result (λ twin. faults twin ≡ 0) }
         ensures fresh_returned { IfOk result (λ twin. returned twin ≡ 0) }
         ensures same_port { IfOk result (λ twin. port twin ≡ port self.old) }
+        ensures fresh_accepts { IfOk result (λ twin. BeginsEmpty (accepts twin)) }
         ensures fresh_accepted { IfOk result (λ twin. BeginsEmpty (accepted twin)) }
         ensures fresh_retired { IfOk result (λ twin. BeginsEmpty (retired twin)) }
         ensures cause { HasCause (faults self.old) (faults self.new) result }
         ensures returned { returned self.new ≡ returned self.old }
         ensures port { port self.new ≡ port self.old }
+        ensures accepts { accepts self.new ≡ accepts self.old }
         ensures accepted { accepted self.new ≡ accepted self.old }
         ensures retired { retired self.new ≡ retired self.old };
 }
@@ -124,6 +131,10 @@ pub trait Gate: Sized + Send + Drop {
 /// What makes links and opens gates.
 pub trait Net: Dialer {
     type Door: Gate + Drop;
+
+    /// The gates that it was asked for so far, in order: the port of each, and whether it was opened, where it tells
+    /// that.
+    ghost asked_gates: { Self → Option (List (ℕ × Bool)) };
 
     /// The gates that were shut so far, in order, as they reported then, where it tells that.
     ghost shut_doors: { Self → Option (List Door) };
@@ -133,12 +144,14 @@ pub trait Net: Dialer {
         ensures fresh { IfOk result (λ door. Self.Door.faults door ≡ 0) }
         ensures fresh_returned { IfOk result (λ door. Self.Door.returned door ≡ 0) }
         ensures port { IfOk result (λ door. Self.Door.port door ≡ port) }
+        ensures fresh_accepts { IfOk result (λ door. BeginsEmpty (Self.Door.accepts door)) }
         ensures fresh_accepted { IfOk result (λ door. BeginsEmpty (Self.Door.accepted door)) }
         ensures fresh_retired { IfOk result (λ door. BeginsEmpty (Self.Door.retired door)) }
         ensures cause { HasCause (Self.faults self.old) (Self.faults self.new) result }
         ensures returned { Self.returned self.new ≡ Self.returned self.old }
         ensures dials { Self.dials self.new ≡ Self.dials self.old }
         ensures retired { Self.retired self.new ≡ Self.retired self.old }
+        ensures requested { asked_gates self.new ≡ grown (asked_gates self.old) ((port, is_ok result) ∷ []) }
         ensures shut { shut_doors self.new ≡ shut_doors self.old };
 
     /// Takes back a gate. It cannot fail.
@@ -149,6 +162,7 @@ pub trait Net: Dialer {
         ensures later { Self.returned self.old ≤ Self.returned self.new }
         ensures dials { Self.dials self.new ≡ Self.dials self.old }
         ensures retired { Self.retired self.new ≡ Self.retired self.old }
+        ensures requested { asked_gates self.new ≡ asked_gates self.old }
         ensures shut { shut_doors self.new ≡ grown (shut_doors self.old) (record {
           port = Self.Door.port door;
           accepted = Self.Door.accepted door;

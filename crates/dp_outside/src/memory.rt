@@ -1,5 +1,5 @@
 //! A source and a sink in memory, which fail where they are told to.
-ghost use Rattle.std.specs.Prelude.{◌≡◌, ◌↔◌, ◌⊎◌, ◌+◌, ◌<◌, ◌≤◌, [], length, Some, IfOk, OnErr, IsErr};
+ghost use Rattle.std.specs.Prelude.{◌≡◌, ◌↔◌, ◌⊎◌, ◌+◌, ◌<◌, ◌≤◌, [], length, Some, IfOk, OnErr, OnOk, IsErr};
 ghost use Rattle.std.specs.Prelude.{IsOk, IsTrue, is_err};
 ghost use Rattle.std.specs.Io.KnownBytes.{ReadConsumes};
 ghost use Rattle.dp_outside.specs.Causes.{HasCause};
@@ -73,6 +73,7 @@ impl Source for ByteSource {
         ensures bound { IfOk result (λ count. count ≤ length buf.new) }
         ensures left { ReadConsumes (Some self.old.tape.left) (Some self.new.tape.left) result buf.new }
         ensures given { TakeGives (Some self.old.tape.given) (Some self.new.tape.given) result buf.new }
+        ensures held { OnOk result (self.new.plan.faults ≡ self.old.plan.faults) }
         ensures cause { HasCause self.old.plan.faults self.new.plan.faults result }
 
         // It fails exactly where its plan says so, and gives pieces of the planned sizes.
@@ -145,6 +146,7 @@ impl Sink for ByteSink {
 
     fn put(&mut self, bytes: &[u8]) -> Result<(), Failed>
         ensures taken { PutAppends (Some self.old.taken) (Some self.new.taken) result bytes.now }
+        ensures held { OnOk result (self.new.plan.faults ≡ self.old.plan.faults) }
         ensures cause { HasCause self.old.plan.faults self.new.plan.faults result }
 
         // It fails exactly where its plan says so or the bytes do not fit, and then takes nothing.

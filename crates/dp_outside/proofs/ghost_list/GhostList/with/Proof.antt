@@ -31,12 +31,12 @@ use denote.Triple.Spec.{Meets, triple_of}
 use denote.Triple.Table.{entered}
 use denote.Triple.Walked.{says, Stays, stay_dropped, walk_of, ends_at, walk_Meets, Goes-dropped}
 use Rattle.std.specs.contracts.marker.PhantomData as Mark
-use Rattle.dp_links.proofs.Walks.{none, one, one_made}
-use Rattle.dp_links.specs.contracts.ghost_list.GhostList as GhostList
-use Rattle.dp_links.specs.contracts.ghost_list.GhostList.with as F
-use Rattle.dp_links.specs.contracts.ghost_list.GhostList.with.Key.{name as #self}
-use Rattle.dp_links.proofs.ghost_list.GhostList.with.Statement as stated
-use Rattle.dp_links.proofs.ghost_list.GhostList.with.Code as code
+use Rattle.dp_outside.proofs.Walks.{none, one, one_made}
+use Rattle.dp_outside.specs.contracts.ghost_list.GhostList as GhostList
+use Rattle.dp_outside.specs.contracts.ghost_list.GhostList.with as F
+use Rattle.dp_outside.specs.contracts.ghost_list.GhostList.with.Key.{name as #self}
+use Rattle.dp_outside.proofs.ghost_list.GhostList.with.Statement as stated
+use Rattle.dp_outside.proofs.ghost_list.GhostList.with.Code as code
 
 module _ (A B C : RattleType) where
   abbrev args : Args
