@@ -1,19 +1,22 @@
 //! The objects in memory and the adapters, called as a program calls them.
 
-use dp_adapters::{FileShelf, ReaderSource, TcpNet, WriterSink};
+use dp_adapters::{FileShelf, ReaderSource, TcpNet, ThreadSpawner, WriterSink};
 use dp_outside::{
-    ByteSink, ByteSource, Dialer, Failed, Faults, Gate, Hook, Host, Job, MapShelf, Memory, Net,
-    NoGate, NoNet, NoSpawner, Shelf, ShelfError, Sink, Source, Spawner, SureByteSink,
-    SureByteSource, SureMapShelf,
+    ByteSink, ByteSource, Dialer, Failed, Faults, Gate, Hook, Host, ItemJob, Job, MapShelf, Memory,
+    Net, NoGate, NoNet, NoSpawner, Shelf, ShelfError, Sink, Source, Spawner, SureByteSink,
+    SureByteSource, SureMapShelf, TurnSpawner,
 };
 use std::alloc::Global;
 use std::fs::Files;
 use std::io::{ErrorKind, Read, Write};
 use std::net::{Net as Sockets, TcpListener, TcpStream};
 use std::sync::Wait;
+use std::sync::atomic::AtomicBool;
+use std::sync::atomic::Ordering::SeqCst;
 use std::test::Fail;
-use std::thread::Threads;
-use std::{fs, io};
+use std::thread::{Threads, join};
+use std::time::Duration;
+use std::{fs, io, thread};
 
 /// The pieces of so many takes, each ended by '|', and '!' for a take that failed.
 fn takes<S: Source>(
@@ -321,7 +324,7 @@ fn file_shelves_fetch_files(rt: HostRuntime) -> Result<(), Fail> {
     for (name, limit, wanted, faults) in rows {
         let seen = fetched(rt.alloc(), &mut shelf, name, limit)?;
         assert_eq!(rt; seen.as_slice(), wanted.as_bytes());
-        assert_eq!(rt; shelf.faults.count(), faults);
+        assert_eq!(rt; shelf.faults(), faults);
     }
     Ok(())
 }
@@ -346,7 +349,7 @@ fn readers_are_sources(rt: HostRuntime) -> Result<(), Fail> {
         takes(rt.alloc(), &mut source, 4, 3)?.as_slice(),
         b"x|!x|".as_slice()
     );
-    assert_eq!(rt; source.faults.count(), 1);
+    assert_eq!(rt; source.faults(), 1);
     let taken = ReaderSource::new(rt.stdin()).take(&mut [0; 8]);
     assert!(rt; matches!(taken, Ok(0) | Err(Failed)));
     Ok(())
@@ -359,8 +362,8 @@ fn writers_are_sinks(rt: HostRuntime) -> Result<(), Fail> {
         puts(rt.alloc(), &mut sink, &["hello", "ab", "cd"])?.as_slice(),
         b"!!+".as_slice()
     );
-    assert_eq!(rt; sink.inner.taken.as_slice(), b"heabcd".as_slice());
-    assert_eq!(rt; sink.faults.count(), 2);
+    assert_eq!(rt; sink.faults(), 2);
+    assert_eq!(rt; sink.into_inner().taken.as_slice(), b"heabcd".as_slice());
     assert!(rt; WriterSink::new(rt.stdout()).put(b"written\n").is_ok());
     Ok(())
 }
@@ -369,9 +372,11 @@ fn writers_are_sinks(rt: HostRuntime) -> Result<(), Fail> {
 struct Doubles(u32);
 
 impl Job for Doubles {
-    ghost use Rattle.std.specs.Prelude.{◌≡◌, ◌*◌};
+    ghost use Rattle.std.specs.Prelude.{◌≡◌, ◌*◌, ⊤};
 
     type Done = u64;
+
+    ghost may_run = { λ _. ⊤ };
 
     ghost may_give = { λ job done. done ≡ job.0 * 2 };
 
@@ -405,7 +410,7 @@ impl<'a, R: Threads + Wait + Sync> Spawner for Halves<'a, R> {
         }
     }
 
-    fn start(&mut self, _hook: Hook) -> Result<(), Failed> {
+    fn start(&mut self, _hook: &Hook) -> Result<(), Failed> {
         self.starts = self.starts.saturating_add(1);
         if self.starts % 2 == 0 {
             self.faults.raise();
@@ -414,12 +419,16 @@ impl<'a, R: Threads + Wait + Sync> Spawner for Halves<'a, R> {
         Ok(())
     }
 
-    fn note(&mut self, _hook: Hook) {
+    fn note(&mut self, _hook: &Hook) {
         self.faults.raise();
     }
 
-    fn runtime(&self, _hook: Hook) -> Option<&R> {
+    fn runtime(&self, _hook: &Hook) -> Option<&R> {
         self.rt
+    }
+
+    fn stack_size(&self, _hook: &Hook) -> Option<usize> {
+        None
     }
 }
 
@@ -463,6 +472,161 @@ fn jobs_run_or_come_back(rt: HostRuntime) -> Result<(), Fail> {
     Ok(())
 }
 
+#[test]
+fn starts_are_refused_where_they_are_told_to_be(rt: HostRuntime) -> Result<(), Fail> {
+    let alloc = rt.alloc();
+    let refused = Vec::from_slice(alloc, &[2, 4])?;
+    let mut spawner: TurnSpawner<HostRuntime> = TurnSpawner::new(alloc, refused)?;
+    assert_eq!(rt; spawner.beside(Doubles(3), Doubles(4)).ok(), Some((6, 8)));
+    assert!(rt; spawner.beside(Doubles(3), Doubles(4)).is_err());
+    assert_eq!(rt;
+        results(alloc, &mut spawner, 3)?.as_slice(),
+        [2, 0, 6].as_slice()
+    );
+    assert_eq!(rt; spawner.faults(), 2);
+    let mut twin = spawner.twin();
+    assert_eq!(rt;
+        results(alloc, &mut twin, 4)?.as_slice(),
+        [2, 4, 6, 8].as_slice()
+    );
+    assert_eq!(rt; twin.faults(), 0);
+    Ok(())
+}
+
+/// Raises a flag, and tells whether another one was raised while it waited.
+#[derive(Drop)]
+struct Meets<'a> {
+    raises: &'a AtomicBool,
+    awaits: &'a AtomicBool,
+}
+
+impl<'a> Job for Meets<'a> {
+    ghost use Rattle.std.specs.Prelude.{⊤};
+
+    type Done = bool;
+
+    ghost may_run = { λ _. ⊤ };
+
+    ghost may_give = { λ _ _. ⊤ };
+
+    fn run(self) -> bool {
+        self.raises.store(true, SeqCst);
+        for _ in 0..1_000_000_000 {
+            if self.awaits.load(SeqCst) {
+                return true;
+            }
+            thread::yield_now();
+        }
+        false
+    }
+}
+
+/// How many of two jobs of a crew met, each of which waits for the other.
+fn crew_meets<P: Spawner>(alloc: Global, spawner: &mut P) -> Result<usize, Memory> {
+    let (first, last) = (AtomicBool::new(false), AtomicBool::new(false));
+    let mut jobs = Vec::new(alloc);
+    jobs.push(Meets {
+        raises: &first,
+        awaits: &last,
+    })?;
+    jobs.push(Meets {
+        raises: &last,
+        awaits: &first,
+    })?;
+    let answers = spawner.crew(alloc, jobs)?;
+    Ok(
+        answers
+            .iter()
+            .filter(|answer| matches!(answer, Ok(true)))
+            .count(),
+    )
+}
+
+#[test]
+fn jobs_meet_in_threads(rt: HostRuntime) -> Result<(), Fail> {
+    let alloc = rt.alloc();
+    let mut spawner = ThreadSpawner::new(&rt);
+    let (near, far) = (AtomicBool::new(false), AtomicBool::new(false));
+    let met = spawner.beside(
+        Meets {
+            raises: &near,
+            awaits: &far,
+        },
+        Meets {
+            raises: &far,
+            awaits: &near,
+        },
+    );
+    assert_eq!(rt; met.ok(), Some((true, true)));
+    assert_eq!(rt; crew_meets(alloc, &mut spawner)?, 2);
+    let mut sized = ThreadSpawner::with_stack_size(&rt, 1 << 20);
+    assert_eq!(rt; crew_meets(alloc, &mut sized.twin())?, 2);
+    assert_eq!(rt; crew_meets(alloc, &mut sized)?, 2);
+    assert_eq!(rt; spawner.faults() + sized.faults(), 0);
+    Ok(())
+}
+
+#[test]
+fn a_start_that_the_system_refuses_hands_the_job_back(rt: HostRuntime) -> Result<(), Fail> {
+    let alloc = rt.alloc();
+    let mut spawner = ThreadSpawner::with_stack_size(&rt, 1 << 62);
+    let (near, far) = (AtomicBool::new(false), AtomicBool::new(false));
+    let back = spawner.beside(
+        Meets {
+            raises: &near,
+            awaits: &far,
+        },
+        Meets {
+            raises: &far,
+            awaits: &near,
+        },
+    );
+    assert!(rt; back.is_err());
+    assert!(rt; !near.load(SeqCst) && !far.load(SeqCst), "neither has run");
+    assert_eq!(rt; spawner.faults(), 1);
+    assert_eq!(rt;
+        results(alloc, &mut spawner, 3)?.as_slice(),
+        [0, 0, 0].as_slice()
+    );
+    assert_eq!(rt; spawner.faults(), 4);
+    assert_eq!(rt; crew_meets(alloc, &mut spawner)?, 0);
+    Ok(())
+}
+
+/// What a closure makes of each number, in a crew; a number whose start was refused comes back as it was.
+fn worked<P: Spawner>(alloc: Global, spawner: &mut P, count: u32) -> Result<Vec<u64>, Memory> {
+    let work = |number: u32| -> u64 { number as u64 * 10 };
+    let mut jobs = Vec::new(alloc);
+    for number in 0..count {
+        jobs.push(ItemJob::new(number, &work))?;
+    }
+    let mut done = Vec::new(alloc);
+    for answer in spawner.crew(alloc, jobs)? {
+        done.push(match answer {
+            Ok(ten) => ten,
+            Err(job) => job.item() as u64,
+        })?;
+    }
+    Ok(done)
+}
+
+#[test]
+fn closures_are_jobs(rt: HostRuntime) -> Result<(), Fail> {
+    let alloc = rt.alloc();
+    let mut threads = ThreadSpawner::new(&rt);
+    assert_eq!(rt;
+        worked(alloc, &mut threads, 3)?.as_slice(),
+        [0, 10, 20].as_slice()
+    );
+    let refused = Vec::from_slice(alloc, &[2])?;
+    let mut turns: TurnSpawner<HostRuntime> = TurnSpawner::new(alloc, refused)?;
+    assert_eq!(rt;
+        worked(alloc, &mut turns, 3)?.as_slice(),
+        [0, 1, 20].as_slice()
+    );
+    Ok(())
+}
+
 /// A port that nothing listens at.
 fn free_port<R: Sockets<Listener = TcpListener, Stream = TcpStream>>(rt: &R) -> io::Result<u16> {
     let listener = TcpListener::bind(rt, "127.0.0.1:0")?;
@@ -495,10 +659,63 @@ fn links_to_itself<N: Net>(alloc: Global, net: &mut N, port: u16) -> Result<Vec<
 #[test]
 fn links_go_over_loopback(rt: HostRuntime) -> Result<(), Fail> {
     let port = free_port(&rt)?;
-    let mut net = TcpNet::new(rt.alloc(), &rt);
+    let mut net = TcpNet::new(&rt, Duration::from_secs(30));
     let seen = links_to_itself(rt.alloc(), &mut net, port)?;
     assert_eq!(rt; seen.as_slice(), b"127.0.0.1++a|b|c|||!!".as_slice());
-    assert_eq!(rt; net.faults.count(), 1);
-    assert_eq!(rt; net.returned.count(), 1);
+    assert_eq!(rt; net.faults(), 1);
+    assert_eq!(rt; net.returned(), 1);
+    Ok(())
+}
+
+/// What comes over the links of a gate, of which the first is gone before its turn, the second says nothing, and the
+/// third says something and then nothing for as long as the second one is waited for three times: '|' for each end of a
+/// take and '!' for each that failed.
+fn quiet_links<R: Threads, N: Net>(
+    rt: &R,
+    alloc: Global,
+    net: &mut N,
+    port: u16,
+) -> Result<Vec<u8>, Fail> {
+    let host = Host::of(b"127.0.0.1").ok_or("a host")?;
+    let mut gate = net.gate(port).ok().ok_or("a gate")?;
+    let (gone, mut gone_out) = net.dial(&host, port).ok().ok_or("a link")?;
+    gone_out.finish();
+    net.retire(gone, gone_out);
+    let silent = net.dial(&host, port).ok().ok_or("a link")?;
+    let (near, mut near_out) = net.dial(&host, port).ok().ok_or("a link")?;
+    let (mut first, first_out, _) = gate.accept().ok().ok_or("its other end")?;
+    let (mut second, second_out, _) = gate.accept().ok().ok_or("its other end")?;
+    let (mut third, third_out, _) = gate.accept().ok().ok_or("its other end")?;
+    let mut seen = takes(alloc, &mut first, 1, 1)?;
+    near_out.put(b"a").ok().ok_or("a put")?;
+    seen.extend_from_slice(&takes(alloc, &mut third, 1, 1)?)?;
+    let (late, waited) = join(
+        rt,
+        || takes(alloc, &mut third, 1, 1),
+        || {
+            let waited = takes(alloc, &mut second, 1, 3);
+            let _ = near_out.put(b"b");
+            waited
+        },
+    );
+    seen.extend_from_slice(&waited?)?;
+    seen.extend_from_slice(&late?)?;
+    gate.retire(first, first_out);
+    gate.retire(second, second_out);
+    gate.retire(third, third_out);
+    net.retire(silent.0, silent.1);
+    net.retire(near, near_out);
+    net.shut(gate);
+    Ok(seen)
+}
+
+#[test]
+fn a_silent_link_is_given_up(rt: HostRuntime) -> Result<(), Fail> {
+    let port = free_port(&rt)?;
+    let mut net = TcpNet::new(&rt, Duration::from_millis(100));
+    let seen = quiet_links(&rt, rt.alloc(), &mut net, port)?;
+    assert_eq!(rt; seen.as_slice(), b"|a|!!!b|".as_slice());
+    assert_eq!(rt; net.faults(), 0);
+    assert_eq!(rt; net.returned(), 1);
     Ok(())
 }

@@ -8,6 +8,7 @@ use std::net::{Net as Sockets, TcpListener, TcpStream};
 use std::sync::Wait;
 use std::test::Fail;
 use std::thread::{Threads, join};
+use std::time::Duration;
 use std::{io, thread};
 
 const HOST: &str = "127.0.0.1";
@@ -66,7 +67,7 @@ fn call<R: Threads + Wait + Sync + Send + Sockets<Listener = TcpListener, Stream
     let mut input = ByteSource::new(Vec::new(alloc), Vec::new(alloc), Vec::new(alloc))?;
     let mut out = ByteSink::new(alloc, ROOM, Vec::new(alloc))?;
     let mut err = ByteSink::new(alloc, ROOM, Vec::new(alloc))?;
-    let mut net = TcpNet::new(alloc, rt);
+    let mut net = TcpNet::new(rt, Duration::from_secs(30));
     let mut spawner: NoSpawner<R> = NoSpawner::new();
     let status = top(
         rt,
