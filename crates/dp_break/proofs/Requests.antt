@@ -20,6 +20,7 @@ use Rattle.dp_break.specs.Hits.{is_of_function}
 use Rattle.dp_break.specs.Refusals.{cannot_be_held, code_if, place_refusal, plain_refusal, requested_line_refusal}
 use Rattle.dp_break.specs.Tables.{IsSound, Table, breakpoint_limit, last_id}
 use Rattle.dp_break.specs.inner.Causes.{IsNoTree, error_of, pure_or_refused}
+use Rattle.dp_packet.specs.declared.error_codes.ErrorCode.TheVariants.{BreakpointNotSet, InvalidExpression}
 
 -- ---- expressions
 
@@ -29,7 +30,7 @@ short_enough n le = grind (arith, nat_tests)
 too_many : (n : ℕ) → expression_limit < n → nat_le n expression_limit ≡ false
 too_many n lt = grind (arith, nat_tests)
 
-pub too_long : (text : List ℕ) → 4096 < length text → IsNoTree (Some text) (error.Code 207)
+pub too_long : (text : List ℕ) → 4096 < length text → IsNoTree (Some text) (error.Code InvalidExpression)
 unfolding condition_of
 too_long text long =
     (refl, ap (λ b. is_none (cond b (option_and_then if_pure (expression_in text)) None)) (too_many (length text) long))
@@ -44,18 +45,18 @@ module _ (text : List ℕ) (short : length text ≤ expression_limit) where
       → IfOk (pure_or_refused e) (λ found. condition_of text ≡ Some found)
   pure_found e is = cases (is_pure e) (condition_is ∙ ap (option_and_then if_pure) is) where
     cases : (p : Bool) → condition_of text ≡ cond p (Some e) None
-        → IfOk (cond p (Ok e) (Err (error.Code 207))) (λ found. condition_of text ≡ Some found)
+        → IfOk (cond p (Ok e) (Err (error.Code InvalidExpression))) (λ found. condition_of text ≡ Some found)
     cases true h = h
     cases false h = tt
 
   pub pure_refused : (e : Expression) → expression_in text ≡ Some e → IfErr (pure_or_refused e) (IsNoTree (Some text))
   pure_refused e is = cases (is_pure e) (condition_is ∙ ap (option_and_then if_pure) is) where
     cases : (p : Bool) → condition_of text ≡ cond p (Some e) None
-        → IfErr {T = Expression} (cond p (Ok e) (Err (error.Code 207))) (IsNoTree (Some text))
+        → IfErr {T = Expression} (cond p (Ok e) (Err (error.Code InvalidExpression))) (IsNoTree (Some text))
     cases true h = tt
     cases false h = (refl, ap is_none h)
 
-  no_text : expression_in text ≡ None → IsNoTree (Some text) (error.Code 207)
+  no_text : expression_in text ≡ None → IsNoTree (Some text) (error.Code InvalidExpression)
   no_text is = (refl, ap is_none (condition_is ∙ ap (option_and_then if_pure) is))
 
   no_memory : IsNoTree (Some text) error.Memory
@@ -103,7 +104,8 @@ pure_held (Some text) e h = condition_pure text e h
 module _ (bundle : Bundle) (t : Table) (r : BreakRequest) where
   can_be_held : place_refusal bundle t r ≡ None → cannot_be_held t r ≡ false
   can_be_held e = cases (cannot_be_held t r) e where
-    cases : (c : Bool) → cond c (Some 200) (requested_line_refusal bundle (Some r.file) r.line) ≡ None → c ≡ false
+    cases : (c : Bool) → cond c (Some BreakpointNotSet) (requested_line_refusal bundle (Some r.file) r.line) ≡ None
+        → c ≡ false
     cases true f = absurd cc
     cases false f = refl
 
@@ -136,7 +138,7 @@ module _ (bundle : Bundle) (t : Table) (r : BreakRequest) where
       → is_too_long r.expression ≡ false
       → IfSome (plain_refusal bundle t r) (λ code. result ≡ Err (error.Code code))
   not_plain result place short =
-      let none : plain_refusal bundle t r ≡ None = (λ i. option_or (place i) (code_if (short i) 207)) in
+      let none : plain_refusal bundle t r ≡ None = (λ i. option_or (place i) (code_if (short i) InvalidExpression)) in
       rw none tt
 
   pub sure_formed : {A : Type 0} (result : Result A BreakError) → place_refusal bundle t r ≡ None

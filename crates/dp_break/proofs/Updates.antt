@@ -6,6 +6,7 @@ use Rattle.std.proofs.lemmas.List.{length-set}
 use Rattle.std.proofs.lemmas.List.Elements.{All-get_or, All-set}
 use Rattle.std.proofs.lemmas.List.Sums.{count_by-le-length, length-filter}
 use Rattle.dp_tree.specs.declared.bundle.Bundle.{Bundle}
+use Rattle.dp_packet.specs.declared.error_codes.ErrorCode.TheVariants.{InvalidOptions, NoSuchBreakpoint}
 use Rattle.dp_packet.specs.declared.packet.BreakKind.{BreakKind}
 use Rattle.dp_packet.specs.declared.packet.BreakKind.TheVariants.{Line, Call, Return, Conditional}
 use Rattle.dp_break.specs.declared.breakpoint.BreakChange.{BreakChange}
@@ -104,7 +105,7 @@ module _ (id : ℕ) (held : List Breakpoint) (next : ℕ) where
       sound_here = subst IsSound (sym read) (All-get_or IsSound held at b there.within t.sound)
 
   pub missing_answer : (bundle : Bundle) (c : BreakChange) → place ≡ None
-      → Err (error.Code 205) ≡ answer_of (update_refusal bundle c (held_as held id))
+      → Err (error.Code NoSuchBreakpoint) ≡ answer_of (update_refusal bundle c (held_as held id))
   missing_answer bundle c e = sym (ap (λ (o : Option Breakpoint). answer_of (update_refusal bundle c o)) (missing e).0)
 
 -- ---- soundness
@@ -132,6 +133,6 @@ changed_sound bundle c b accepted s = record {
   tree = s.tree;
   formed = s.formed;
 } where
-  cases : (t : Bool) → cond t (Some 3) (requested_line_refusal bundle b.file c.line) ≡ None → t ≡ false
+  cases : (t : Bool) → cond t (Some InvalidOptions) (requested_line_refusal bundle b.file c.line) ≡ None → t ≡ false
   cases true f = absurd cc
   cases false f = refl

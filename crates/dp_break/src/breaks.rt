@@ -18,6 +18,7 @@ use crate::lines::requested_line_refusal;
 use crate::moments::{any_hits, discard, mark, settle};
 use crate::new_breakpoints::new_breakpoint;
 use dp_lexer::NAME_LIMIT;
+use dp_packet::ErrorCode;
 use dp_state::{Moment, State};
 use dp_tree::Bundle;
 use dp_value::Memory;
@@ -71,11 +72,15 @@ fn make_room(marks: &mut Vec<bool>, count: usize) -> Result<(), Memory>
 }
 
 /// The code with which a change is refused, if it is.
-fn refused_change(bundle: &Bundle, change: BreakChange, breakpoint: &Breakpoint) -> Option<u16>
+fn refused_change(
+    bundle: &Bundle,
+    change: BreakChange,
+    breakpoint: &Breakpoint,
+) -> Option<ErrorCode>
     ensures { result ≡ change_refusal bundle.now change breakpoint.now }
 {
     if is_of_function(breakpoint.kind) && change.line.is_some() {
-        return Some(3);
+        return Some(ErrorCode::InvalidOptions);
     }
     requested_line_refusal(bundle, breakpoint.file, change.line)
 }
@@ -139,15 +144,15 @@ impl Breaks {
     }
 
     /// The first of the codes 200, 202 and 203 with which a request is refused, if it is.
-    fn refused_request(&self, bundle: &Bundle, request: &BreakRequest) -> Option<u16>
+    fn refused_request(&self, bundle: &Bundle, request: &BreakRequest) -> Option<ErrorCode>
         ensures { result ≡ place_refusal bundle.now self.now request.now }
     {
         if self.held.len() >= BREAKPOINT_LIMIT || self.next == u32::MAX {
-            return Some(200);
+            return Some(ErrorCode::BreakpointNotSet);
         }
         if let Some(name) = &request.function {
             if name.len() > NAME_LIMIT {
-                return Some(200);
+                return Some(ErrorCode::BreakpointNotSet);
             }
         }
         requested_line_refusal(bundle, Some(request.file), request.line)
@@ -183,7 +188,7 @@ impl Breaks {
     {
         let at = match place_of(self.held.as_slice(), id) {
             Some(at) => at,
-            None => return Err(BreakError::Code(205)),
+            None => return Err(BreakError::Code(ErrorCode::NoSuchBreakpoint)),
         };
         let breakpoint = &mut self.held[at];
         match refused_change(bundle, change, breakpoint) {

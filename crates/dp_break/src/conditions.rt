@@ -9,6 +9,7 @@ ghost use Rattle.dp_tree.specs.Purity.{is_pure};
 
 use crate::errors::BreakError;
 use dp_meaning::shared_value_in;
+use dp_packet::ErrorCode;
 use dp_parse::{ParseError, parse_expression};
 use dp_state::State;
 use dp_tree::{Bundle, Expression, is_pure};
@@ -24,7 +25,7 @@ fn no_expression(why: ParseError) -> BreakError
 {
     match why {
         ParseError::Memory => BreakError::Memory,
-        _ => BreakError::Code(207),
+        _ => BreakError::Code(ErrorCode::InvalidExpression),
     }
 }
 
@@ -35,7 +36,7 @@ fn pure_only(e: Expression) -> Result<Expression, BreakError>
     if is_pure(&e) {
         Ok(e)
     } else {
-        Err(BreakError::Code(207))
+        Err(BreakError::Code(ErrorCode::InvalidExpression))
     }
 }
 
@@ -45,7 +46,7 @@ fn condition_of(alloc: Global, text: &Bytes) -> Result<Expression, BreakError>
     ensures refused { IfErr result (IsNoTree (Some text.now)) }
 {
     if text.len() > EXPRESSION_LIMIT {
-        return Err(BreakError::Code(207));
+        return Err(BreakError::Code(ErrorCode::InvalidExpression));
     }
     match parse_expression(alloc, text.as_slice()) {
         Ok(e) => pure_only(e),

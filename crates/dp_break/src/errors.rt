@@ -3,15 +3,16 @@
 ghost use Rattle.std.specs.Prelude.{◌≡◌};
 ghost use Rattle.dp_break.specs.declared.errors.BreakError.TheVariants.{Memory};
 
+use dp_packet::ErrorCode;
 use std::alloc::{AllocError, AllocFailed};
 use thiserror::Error;
 
 /// Why a breakpoint was not set or not changed.
 #[derive(Clone, Copy, Debug, Error, PartialEq, Eq)]
 pub enum BreakError {
-    /// The code of the error response. DBGp 1.0, "Error Codes": 3, 200, 202, 203, 205 or 207.
-    #[error("error {0}")]
-    Code(u16),
+    /// The code of the error response. DBGp 1.0, "Error Codes".
+    #[error("error {0:?}")]
+    Code(ErrorCode),
     /// Out of memory.
     #[error("out of memory")]
     Memory,

@@ -13,7 +13,7 @@ mod new_breakpoints;
 
 pub use breakpoint::{BreakChange, BreakRequest, Breakpoint};
 pub use breaks::Breaks;
-pub use dp_packet::{BreakKind, HitRule};
+pub use dp_packet::{BreakKind, ErrorCode, HitRule};
 pub use dp_value::Memory;
 pub use errors::BreakError;
 pub use hits::is_of_function;

@@ -3,18 +3,19 @@
 ghost use Rattle.std.specs.Prelude.{◌≡◌};
 ghost use Rattle.dp_break.specs.Refusals as spec;
 
+use dp_packet::ErrorCode;
 use dp_tree::{Bundle, File, has_code};
 
 /// Why no breakpoint may stand on a line of a file, if so: 202 or 203.
-fn line_refusal(file: &File, line: u32) -> Option<u16>
+fn line_refusal(file: &File, line: u32) -> Option<ErrorCode>
     ensures { result ≡ spec.line_refusal file.now line }
 {
     if line == 0 || file.lines < line {
-        Some(202)
+        Some(ErrorCode::InvalidBreakpointLine)
     } else if has_code(file, line) {
         None
     } else {
-        Some(203)
+        Some(ErrorCode::NoCodeOnLine)
     }
 }
 
@@ -23,7 +24,7 @@ pub(crate) fn requested_line_refusal(
     bundle: &Bundle,
     file: Option<u32>,
     line: Option<u32>,
-) -> Option<u16>
+) -> Option<ErrorCode>
     ensures { result ≡ spec.requested_line_refusal bundle.now file line }
 {
     let (Some(file), Some(line)) = (file, line) else {
@@ -31,6 +32,6 @@ pub(crate) fn requested_line_refusal(
     };
     match bundle.files.as_slice().get(file as usize) {
         Some(file) => line_refusal(&file.tree, line),
-        None => Some(202),
+        None => Some(ErrorCode::InvalidBreakpointLine),
     }
 }

@@ -1,4 +1,3 @@
 pub mod RequestTests
 pub mod Lengths
 pub mod Shown
-pub mod Codes

@@ -12,6 +12,8 @@ use Rattle.dp_break.specs.Refusals.{plain_refusal}
 use Rattle.dp_break.specs.Tables.{Table, has_parts}
 use Rattle.dp_tree.specs.declared.bundle.Bundle.{Bundle}
 use Rattle.dp_command.specs.declared.command.BreakpointSet.{BreakpointSet}
+use Rattle.dp_packet.specs.declared.error_codes.ErrorCode.{ErrorCode}
+use Rattle.dp_packet.specs.declared.error_codes.ErrorCode.TheVariants.{InvalidOptions, TypeNotSupported, InvalidBreakpointState}
 use Rattle.dp_packet.specs.declared.packet.BreakKind.{BreakKind}
 use Rattle.dp_packet.specs.declared.packet.BreakKind.TheVariants.{Line, Call, Return, Conditional}
 use Rattle.dp_breakpoint_commands.specs.declared.errors.BreakpointError.{BreakpointError}
@@ -27,11 +29,11 @@ use Rattle.dp_breakpoint_commands.specs.Words.{has_no_meaning, kind_named, meant
 -- ---- tests before others
 
 -- the code of the first test that holds, where it is known whether this one does
-abbrev code_after : Bool → Test → List Test → Option ℕ
+abbrev code_after : Bool → Test → List Test → Option ErrorCode
 code_after holds test more = option_map (λ t. t.1) (if holds then Some test else find (λ t. t.0) more)
 
 -- a code that some tests have stays with more tests behind them
-earlier_code : (tests more : List Test) (code : ℕ) → first_code tests ≡ Some code
+earlier_code : (tests more : List Test) (code : ErrorCode) → first_code tests ≡ Some code
     → first_code (tests ++ more) ≡ Some code
 earlier_code [] more code e = absurd cc
 earlier_code (t ∷ tests) more code e = by t.0 (earlier_code tests more code) e where
@@ -83,7 +85,7 @@ file_only bundle set Memory words h = absurd h
 -- ---- what is accepted
 
 -- the first test does not hold, and none of the others does
-passed : (holds : Bool) (code : ℕ) (more : List Test) → first_code ((holds, code) ∷ more) ≡ None
+passed : (holds : Bool) (code : ErrorCode) (more : List Test) → first_code ((holds, code) ∷ more) ≡ None
     → (holds ≡ false) × (first_code more ≡ None)
 passed true code more e = absurd cc
 passed false code more e = (refl, e)
@@ -96,18 +98,21 @@ record IsAccepted (set : BreakpointSet) : Type 0 where
   formed : has_malformed_part set ≡ false
 
 abbrev last_test : BreakpointSet → List Test
-last_test set = (has_no_meaning state_named set.state, 204) ∷ []
+last_test set = (has_no_meaning state_named set.state, InvalidBreakpointState) ∷ []
 
 abbrev later_tests : BreakpointSet → List Test
-later_tests set = (of_kind has_part_too_many set, 3) ∷ (has_malformed_part set, 3) ∷ last_test set
+later_tests set = (of_kind has_part_too_many set, InvalidOptions) ∷ (has_malformed_part set, InvalidOptions)
+    ∷ last_test set
 
 each_passed : (set : BreakpointSet) → first_code (word_tests set) ≡ None → IsAccepted set
 unfolding word_tests
 each_passed set e =
-    let known = passed (is_none (kind_named set.kind)) 201 ((of_kind lacks_part set, 3) ∷ later_tests set) e in
-    let whole = passed (of_kind lacks_part set) 3 (later_tests set) known.1 in
-    let fitting = passed (of_kind has_part_too_many set) 3 ((has_malformed_part set, 3) ∷ last_test set) whole.1 in
-    let formed = passed (has_malformed_part set) 3 (last_test set) fitting.1 in
+    let known = passed (is_none (kind_named set.kind)) TypeNotSupported ((of_kind lacks_part set, InvalidOptions)
+        ∷ later_tests set) e in
+    let whole = passed (of_kind lacks_part set) InvalidOptions (later_tests set) known.1 in
+    let fitting = passed (of_kind has_part_too_many set) InvalidOptions ((has_malformed_part set, InvalidOptions)
+        ∷ last_test set) whole.1 in
+    let formed = passed (has_malformed_part set) InvalidOptions (last_test set) fitting.1 in
     record { known = known.0; whole = whole.0; fitting = fitting.0; formed = formed.0 }
 
 -- ---- files
@@ -208,7 +213,7 @@ plain_passed {A} bundle here t set r id free is h result =
     (by (plain_refusal bundle t (request bundle here set)) (subst
     (λ (x : BreakRequest). IfSome (plain_refusal bundle t x) (λ code. held_id id ≡ Err (held.Code code))) is h))
   where
-    by : (o : Option ℕ) → IfSome o (λ code. held_id id ≡ Err (held.Code code))
+    by : (o : Option ErrorCode) → IfSome o (λ code. held_id id ≡ Err (held.Code code))
         → IfSome o (λ code. result ≡ Err (Code code))
     by None h = tt
     by (Some code) h = absurd cc
@@ -226,7 +231,7 @@ plain_told {A} bundle here t set r e free is h (Err x) told =
     (by (plain_refusal bundle t (request bundle here set)) (subst
     (λ (y : BreakRequest). IfSome (plain_refusal bundle t y) (λ code. not_held e ≡ Err (held.Code code))) is h))
   where
-    by : (o : Option ℕ) → IfSome o (λ code. not_held e ≡ Err (held.Code code))
+    by : (o : Option ErrorCode) → IfSome o (λ code. not_held e ≡ Err (held.Code code))
         → IfSome o (λ code. failed {A = A} x ≡ Err (Code code))
     by None h = tt
     by (Some code) h =

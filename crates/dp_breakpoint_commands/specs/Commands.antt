@@ -11,11 +11,13 @@ use Rattle.dp_break.specs.Refusals.{change_refusal, code_if, plain_refusal, requ
 use Rattle.dp_break.specs.Tables.{Table}
 use Rattle.dp_command.specs.declared.command.BreakpointAction.{BreakpointAction}
 use Rattle.dp_command.specs.declared.command.BreakpointAction.TheVariants.{Get, Remove}
+use Rattle.dp_command.specs.declared.command.BreakpointRequest.{BreakpointRequest}
+use Rattle.dp_command.specs.declared.command.BreakpointRequest.TheVariants as request
 use Rattle.dp_command.specs.declared.command.BreakpointSet.{BreakpointSet}
 use Rattle.dp_command.specs.declared.command.BreakpointUpdate.{BreakpointUpdate}
-use Rattle.dp_command.specs.declared.command.Request.{Request}
-use Rattle.dp_command.specs.declared.command.Request.TheVariants as request
 use Rattle.dp_command.specs.Tests.{first_code}
+use Rattle.dp_packet.specs.declared.error_codes.ErrorCode.{ErrorCode}
+use Rattle.dp_packet.specs.declared.error_codes.ErrorCode.TheVariants.{NoSuchBreakpoint}
 use Rattle.dp_packet.specs.Breakpoints.{state_name}
 use Rattle.dp_packet.specs.declared.packet.Body.TheVariants as body
 use Rattle.dp_packet.specs.declared.packet.BreakLine.{BreakLine}
@@ -36,47 +38,44 @@ use Rattle.dp_breakpoint_commands.specs.Words.{meant, state_named}
 
 -- a new breakpoint, asked for at a moment in this file: by its words and its file, then by what is
 -- held, its line and expression
-abbrev pub set_refusal : Bundle → ℕ → Table → BreakpointSet → Option ℕ
+abbrev pub set_refusal : Bundle → ℕ → Table → BreakpointSet → Option ErrorCode
 set_refusal bundle here t set =
     option_or (setting.refusal bundle set)
     (request_refusal bundle t (setting.request bundle here set))
 
--- there is no breakpoint of this id: 205
-abbrev pub id_refusal : Table → ℕ → Option ℕ
-id_refusal t id = code_if (is_none (held_as t.held id)) 205
+-- there is no breakpoint of this id
+abbrev pub id_refusal : Table → ℕ → Option ErrorCode
+id_refusal t id = code_if (is_none (held_as t.held id)) NoSuchBreakpoint
 
 -- a change of a breakpoint: by its words, then by its line
-abbrev pub change_refused : Bundle → BreakpointUpdate → Breakpoint → Option ℕ
+abbrev pub change_refused : Bundle → BreakpointUpdate → Breakpoint → Option ErrorCode
 change_refused bundle update b =
     option_or (first_code (change_tests b.kind update)) (change_refusal bundle (change update) b)
 
-abbrev pub update_refusal : Bundle → Table → BreakpointUpdate → Option ℕ
+abbrev pub update_refusal : Bundle → Table → BreakpointUpdate → Option ErrorCode
 update_refusal bundle t update =
-    option_map_or (change_refused bundle update) (held_as t.held update.id) (Some 205)
+    option_map_or (change_refused bundle update) (held_as t.held update.id) (Some NoSuchBreakpoint)
 
--- the code with which a command is refused at a moment in this file, if it is; one that is no
--- breakpoint command is none here
-abbrev pub breakpoint_refusal : Bundle → ℕ → Table → Request → Option ℕ
-breakpoint_refusal bundle here t (request.BreakpointSet set) = set_refusal bundle here t set
-breakpoint_refusal bundle here t (request.Breakpoint action id) = id_refusal t id
-breakpoint_refusal bundle here t (request.BreakpointUpdate update) = update_refusal bundle t update
-breakpoint_refusal bundle here t request.BreakpointList = None
-breakpoint_refusal bundle here t other = Some 4
+-- the code with which a command is refused at a moment in this file, if it is
+abbrev pub breakpoint_refusal : Bundle → ℕ → Table → BreakpointRequest → Option ErrorCode
+breakpoint_refusal bundle here t (request.Set set) = set_refusal bundle here t set
+breakpoint_refusal bundle here t (request.One action id) = id_refusal t id
+breakpoint_refusal bundle here t (request.Update update) = update_refusal bundle t update
+breakpoint_refusal bundle here t request.List = None
 
 -- the same, where it needs no look at what an expression says
-abbrev pub plain_set_refusal : Bundle → ℕ → Table → BreakpointSet → Option ℕ
+abbrev pub plain_set_refusal : Bundle → ℕ → Table → BreakpointSet → Option ErrorCode
 plain_set_refusal bundle here t set =
     option_or (setting.refusal bundle set) (plain_refusal bundle t
     (setting.request bundle here set))
 
-abbrev pub plain_breakpoint_refusal : Bundle → ℕ → Table → Request → Option ℕ
-plain_breakpoint_refusal bundle here t (request.BreakpointSet set) =
-    plain_set_refusal bundle here t set
+abbrev pub plain_breakpoint_refusal : Bundle → ℕ → Table → BreakpointRequest → Option ErrorCode
+plain_breakpoint_refusal bundle here t (request.Set set) = plain_set_refusal bundle here t set
 plain_breakpoint_refusal bundle here t other = breakpoint_refusal bundle here t other
 
 -- a file is named by its URI, which is to be decoded
-abbrev pub names_uri : Request → Bool
-names_uri (request.BreakpointSet set) = option_map_or is_uri set.file false
+abbrev pub names_uri : BreakpointRequest → Bool
+names_uri (request.Set set) = option_map_or is_uri set.file false
 names_uri other = false
 
 -- ---- what is held
@@ -91,10 +90,10 @@ acted_on Get id t = t
 acted_on Remove id t = without id t
 
 -- what is held after a command that is not refused
-abbrev pub breakpoint_table : Bundle → ℕ → Request → Table → Table
-breakpoint_table bundle here (request.BreakpointSet set) t = set_table bundle here set t
-breakpoint_table bundle here (request.Breakpoint action id) t = acted_on action id t
-breakpoint_table bundle here (request.BreakpointUpdate update) t =
+abbrev pub breakpoint_table : Bundle → ℕ → BreakpointRequest → Table → Table
+breakpoint_table bundle here (request.Set set) t = set_table bundle here set t
+breakpoint_table bundle here (request.One action id) t = acted_on action id t
+breakpoint_table bundle here (request.Update update) t =
     with_change update.id (change update) t
 breakpoint_table bundle here other t = t
 
@@ -132,11 +131,11 @@ action_response bundle command id Get found = lines_response command id (found_l
 action_response bundle command id Remove found = bare_response command id
 
 -- what is answered to a command that is not refused, by what was held before it
-abbrev pub breakpoint_response : Bundle → Text → Text → Table → Request → Response
-breakpoint_response bundle command id t (request.BreakpointSet set) =
+abbrev pub breakpoint_response : Bundle → Text → Text → Table → BreakpointRequest → Response
+breakpoint_response bundle command id t (request.Set set) =
     set_response command id (unwrap_or (meant state_named set.state) true) t.next
-breakpoint_response bundle command id t (request.Breakpoint action number) =
+breakpoint_response bundle command id t (request.One action number) =
     action_response bundle command id action (held_as t.held number)
-breakpoint_response bundle command id t request.BreakpointList =
+breakpoint_response bundle command id t request.List =
     lines_response command id (listed command id (map (breakpoint_line bundle) t.held))
 breakpoint_response bundle command id t other = bare_response command id

@@ -6,6 +6,8 @@ use Rattle.dp_break.specs.Hits.{is_of_function}
 use Rattle.dp_break.specs.declared.breakpoint.BreakRequest.{BreakRequest}
 use Rattle.dp_tree.specs.declared.bundle.Bundle.{Bundle}
 use Rattle.dp_command.specs.declared.command.BreakpointSet.{BreakpointSet}
+use Rattle.dp_packet.specs.declared.error_codes.ErrorCode.{ErrorCode}
+use Rattle.dp_packet.specs.declared.error_codes.ErrorCode.TheVariants.{InvalidOptions, BreakpointNotSet, TypeNotSupported, InvalidBreakpointState}
 use Rattle.dp_packet.specs.declared.packet.BreakKind.{BreakKind}
 use Rattle.dp_packet.specs.declared.packet.BreakKind.TheVariants.{Line, Call, Return, Conditional}
 use Rattle.dp_packet.specs.declared.packet.HitRule.TheVariants.{AtLeast}
@@ -41,23 +43,23 @@ of_kind test set = option_map_or (λ kind. test kind set) (kind_named set.kind) 
 -- the tests of a command's words
 unfoldable pub word_tests : BreakpointSet → List Test
 word_tests set =
-    (is_none (kind_named set.kind), 201)
-    ∷ (of_kind lacks_part set, 3)
-    ∷ (of_kind has_part_too_many set, 3)
-    ∷ (has_malformed_part set, 3)
-    ∷ (has_no_meaning state_named set.state, 204)
+    (is_none (kind_named set.kind), TypeNotSupported)
+    ∷ (of_kind lacks_part set, InvalidOptions)
+    ∷ (of_kind has_part_too_many set, InvalidOptions)
+    ∷ (has_malformed_part set, InvalidOptions)
+    ∷ (has_no_meaning state_named set.state, InvalidBreakpointState)
     ∷ []
 
 -- the test of `-f`: it names no file
 abbrev pub file_tests : Bundle → Option (List ℕ) → List Test
-file_tests bundle file = (has_no_meaning (requested_file bundle) file, 200) ∷ []
+file_tests bundle file = (has_no_meaning (requested_file bundle) file, BreakpointNotSet) ∷ []
 
 -- the tests of a command, in their order
 abbrev pub own_tests : Bundle → BreakpointSet → List Test
 own_tests bundle set = word_tests set ++ file_tests bundle set.file
 
 -- the code of the first refusal, if a command is refused
-unfoldable pub refusal : Bundle → BreakpointSet → Option ℕ
+unfoldable pub refusal : Bundle → BreakpointSet → Option ErrorCode
 refusal bundle set = first_code (own_tests bundle set)
 
 -- ---- requests

@@ -4,6 +4,7 @@ use Rattle.std.specs.Prelude.{◌&&◌, List, [], ◌∷◌, is_some}
 use Rattle.dp_break.specs.Hits.{is_of_function}
 use Rattle.dp_break.specs.declared.breakpoint.BreakChange.{BreakChange}
 use Rattle.dp_command.specs.declared.command.BreakpointUpdate.{BreakpointUpdate}
+use Rattle.dp_packet.specs.declared.error_codes.ErrorCode.TheVariants.{InvalidOptions, InvalidBreakpointState}
 use Rattle.dp_packet.specs.declared.packet.BreakKind.{BreakKind}
 use Rattle.dp_command.specs.Tests.{Test}
 use Rattle.dp_breakpoint_commands.specs.Words.{rule_named, state_named, has_no_meaning, meant}
@@ -11,9 +12,9 @@ use Rattle.dp_breakpoint_commands.specs.Words.{rule_named, state_named, has_no_m
 -- the tests of a change of a breakpoint of this kind, in their order
 abbrev pub change_tests : BreakKind → BreakpointUpdate → List Test
 change_tests kind update =
-    (is_of_function kind && is_some update.line, 3)
-    ∷ (has_no_meaning rule_named update.hit_rule, 3)
-    ∷ (has_no_meaning state_named update.state, 204)
+    (is_of_function kind && is_some update.line, InvalidOptions)
+    ∷ (has_no_meaning rule_named update.hit_rule, InvalidOptions)
+    ∷ (has_no_meaning state_named update.state, InvalidBreakpointState)
     ∷ []
 
 -- what is to change

@@ -1,6 +1,6 @@
 //! The answers to breakpoint commands.
 
-ghost use Rattle.std.specs.Prelude.{◌≡◌, ◌<◌, ◌≤◌, Err, None, ℕ, false, length, map, IfErr, IfOk, IfSome, OnOk};
+ghost use Rattle.std.specs.Prelude.{◌≡◌, ◌<◌, ◌≤◌, Err, None, false, length, map, IfErr, IfOk, IfSome, OnOk};
 ghost use Rattle.dp_break.specs.Changes.{held_as, with_change, without};
 ghost use Rattle.dp_breakpoint_commands.specs.Causes.{IsCause};
 ghost use Rattle.dp_breakpoint_commands.specs.Updates.{change};
@@ -17,8 +17,8 @@ use crate::lists::{list_response, one_response};
 use crate::request::breakpoint_request;
 use crate::responses::{bare_response, set_response};
 use dp_break::Breaks;
-use dp_command::{Addressee, BreakpointAction, BreakpointSet, BreakpointUpdate, Request};
-use dp_packet::Response;
+use dp_command::{Addressee, BreakpointAction, BreakpointRequest, BreakpointSet, BreakpointUpdate};
+use dp_packet::{ErrorCode, Response};
 use dp_tree::Bundle;
 use std::alloc::Global;
 
@@ -34,14 +34,14 @@ fn set_breakpoint(
     requires files { length bundle.now.files ≤ u32.MAX }
     requires here { here < length bundle.now.files }
     ensures response { IfOk result (λ r. r
-        ≡ spec.breakpoint_response bundle.now to.now.command to.now.id breaks.old (Request.BreakpointSet set)) }
+        ≡ spec.breakpoint_response bundle.now to.now.command to.now.id breaks.old (BreakpointRequest.Set set)) }
     ensures accepted { OnOk result (spec.set_refusal bundle.now here breaks.old set ≡ None) }
     ensures table { OnOk result (breaks.new ≡ spec.set_table bundle.now here set breaks.old) }
     ensures refused { IfErr result (IsCause (spec.set_refusal bundle.now here breaks.old set)) }
-    ensures surely { spec.names_uri (Request.BreakpointSet set) ≡ false
+    ensures surely { spec.names_uri (BreakpointRequest.Set set) ≡ false
         → IfSome (spec.plain_set_refusal bundle.now here breaks.old set) (λ code.
         result ≡ Err (BreakpointError.Code code)) }
-    ensures unchanged { (code : ℕ) → result ≡ Err (BreakpointError.Code code) → breaks.new ≡ breaks.old }
+    ensures unchanged { (code : ErrorCode) → result ≡ Err (BreakpointError.Code code) → breaks.new ≡ breaks.old }
     ensures short { IfOk result (λ r. length (text (packet.Response r)) ≤ packet_limit) }
 {
     let request = breakpoint_request(alloc, bundle, here, set)?;
@@ -68,7 +68,7 @@ fn get_breakpoint(
 {
     match breaks.get(id) {
         Some(breakpoint) => Ok(one_response(alloc, bundle, to, breakpoint)?),
-        None => Err(BreakpointError::Code(205)),
+        None => Err(BreakpointError::Code(ErrorCode::NoSuchBreakpoint)),
     }
 }
 
@@ -84,11 +84,11 @@ fn remove_breakpoint(
     ensures table { OnOk result (breaks.new ≡ without id breaks.old) }
     ensures refused { IfErr result (IsCause (spec.id_refusal breaks.old id)) }
     ensures surely { IfSome (spec.id_refusal breaks.old id) (λ code. result ≡ Err (BreakpointError.Code code)) }
-    ensures unchanged { (code : ℕ) → result ≡ Err (BreakpointError.Code code) → breaks.new ≡ breaks.old }
+    ensures unchanged { (code : ErrorCode) → result ≡ Err (BreakpointError.Code code) → breaks.new ≡ breaks.old }
     ensures short { IfOk result (λ r. length (text (packet.Response r)) ≤ packet_limit) }
 {
     if !breaks.remove(id) {
-        return Err(BreakpointError::Code(205));
+        return Err(BreakpointError::Code(ErrorCode::NoSuchBreakpoint));
     }
     Ok(bare_response(alloc, to)?)
 }
@@ -109,7 +109,7 @@ fn act_on_breakpoint(
     ensures table { OnOk result (breaks.new ≡ spec.acted_on action id breaks.old) }
     ensures refused { IfErr result (IsCause (spec.id_refusal breaks.old id)) }
     ensures surely { IfSome (spec.id_refusal breaks.old id) (λ code. result ≡ Err (BreakpointError.Code code)) }
-    ensures unchanged { (code : ℕ) → result ≡ Err (BreakpointError.Code code) → breaks.new ≡ breaks.old }
+    ensures unchanged { (code : ErrorCode) → result ≡ Err (BreakpointError.Code code) → breaks.new ≡ breaks.old }
     ensures short { IfOk result (λ r. length (text (packet.Response r)) ≤ packet_limit) }
 {
     match action {
@@ -132,11 +132,11 @@ fn update_breakpoint(
     ensures refused { IfErr result (IsCause (spec.update_refusal bundle.now breaks.old update.now)) }
     ensures surely { IfSome (spec.update_refusal bundle.now breaks.old update.now) (λ code.
         result ≡ Err (BreakpointError.Code code)) }
-    ensures unchanged { (code : ℕ) → result ≡ Err (BreakpointError.Code code) → breaks.new ≡ breaks.old }
+    ensures unchanged { (code : ErrorCode) → result ≡ Err (BreakpointError.Code code) → breaks.new ≡ breaks.old }
     ensures short { IfOk result (λ r. length (text (packet.Response r)) ≤ packet_limit) }
 {
     let Some(breakpoint) = breaks.get(update.id) else {
-        return Err(BreakpointError::Code(205));
+        return Err(BreakpointError::Code(ErrorCode::NoSuchBreakpoint));
     };
     let change = breakpoint_change(breakpoint.kind, update)?;
     breaks.update(bundle, update.id, change)?;
@@ -149,14 +149,13 @@ fn update_breakpoint(
 /// It is refused with the first code of its row whose test holds, and then nothing has changed: breakpoint_set with
 /// 201, 3, 204, 200, 202, 203 or 207; breakpoint_update with 205, 3, 204, 202 or 203; breakpoint_get and
 /// breakpoint_remove with 205. A list ends before the first breakpoint with which its text would have more than
-/// 16,777,216 bytes. What is no breakpoint command is refused with 4. Once memory ran out nothing is said of the
-/// breakpoints.
+/// 16,777,216 bytes. Once memory ran out nothing is said of the breakpoints.
 pub fn answer_breakpoints(
     alloc: Global,
     bundle: &Bundle,
     here: u32,
     to: &Addressee,
-    request: Request,
+    request: BreakpointRequest,
     breaks: &mut Breaks,
 ) -> Result<Response, BreakpointError>
     requires names { AreFileNames (map (λ f. f.name) bundle.now.files) }
@@ -170,20 +169,19 @@ pub fn answer_breakpoints(
     ensures surely { spec.names_uri request ≡ false
         → IfSome (spec.plain_breakpoint_refusal bundle.now here breaks.old request) (λ code.
         result ≡ Err (BreakpointError.Code code)) }
-    ensures unchanged { (code : ℕ) → result ≡ Err (BreakpointError.Code code) → breaks.new ≡ breaks.old }
+    ensures unchanged { (code : ErrorCode) → result ≡ Err (BreakpointError.Code code) → breaks.new ≡ breaks.old }
     // A packet can be made of it.
     ensures known { IfOk result (λ r. HasMessage (packet.Response r)) }
     ensures short { IfOk result (λ r. length (text (packet.Response r)) ≤ packet_limit) }
 {
     match request {
-        Request::BreakpointSet(set) => set_breakpoint(alloc, bundle, here, to, set, breaks),
-        Request::Breakpoint { action, id } => {
+        BreakpointRequest::Set(set) => set_breakpoint(alloc, bundle, here, to, set, breaks),
+        BreakpointRequest::One { action, id } => {
             act_on_breakpoint(alloc, bundle, to, action, id, breaks)
         }
-        Request::BreakpointUpdate(update) => {
+        BreakpointRequest::Update(update) => {
             update_breakpoint(alloc, bundle, to, &update, breaks)
         }
-        Request::BreakpointList => Ok(list_response(alloc, bundle, to, breaks.list())?),
-        _ => Err(BreakpointError::Code(4)),
+        BreakpointRequest::List => Ok(list_response(alloc, bundle, to, breaks.list())?),
     }
 }

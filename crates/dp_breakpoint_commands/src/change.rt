@@ -9,6 +9,7 @@ use crate::errors::BreakpointError;
 use crate::words::{rule_given, state_given};
 use dp_break::{BreakChange, BreakKind, is_of_function};
 use dp_command::BreakpointUpdate;
+use dp_packet::ErrorCode;
 
 /// The change that a breakpoint_update command asks for, of a breakpoint of this kind. DBGp 1.0, "breakpoint_update".
 ///
@@ -22,7 +23,7 @@ pub fn breakpoint_change(
     ensures { result ≡ answer_of (first_code (spec.change_tests kind update.now)) (spec.change update.now) }
 {
     if is_of_function(kind) && update.line.is_some() {
-        return Err(BreakpointError::Code(3));
+        return Err(BreakpointError::Code(ErrorCode::InvalidOptions));
     }
     let hit_rule = rule_given(&update.hit_rule)?;
     let enabled = state_given(&update.state)?;

@@ -3,6 +3,7 @@
 ghost use Rattle.std.specs.Prelude.{◌≡◌};
 
 use dp_break::BreakError;
+use dp_packet::ErrorCode;
 use dp_value::Memory;
 use std::alloc::AllocFailed;
 use thiserror::Error;
@@ -11,8 +12,8 @@ use thiserror::Error;
 #[derive(Clone, Copy, Debug, Error, PartialEq, Eq)]
 pub enum BreakpointError {
     /// The code of the error response. DBGp 1.0, "Error Codes".
-    #[error("error {0}")]
-    Code(u16),
+    #[error("error {0:?}")]
+    Code(ErrorCode),
     /// Out of memory.
     #[error("out of memory")]
     Memory,

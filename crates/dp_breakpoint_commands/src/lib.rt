@@ -4,7 +4,6 @@
 mod answers;
 mod change;
 mod errors;
-mod laws;
 mod lines;
 mod lists;
 mod request;
@@ -15,6 +14,5 @@ pub use answers::answer_breakpoints;
 pub use change::breakpoint_change;
 pub use dp_value::Memory;
 pub use errors::BreakpointError;
-pub use laws::refusals_have_messages;
 pub use lines::breakpoint_line;
 pub use request::breakpoint_request;

@@ -15,6 +15,7 @@ use crate::words::{flag_given, kind_named, number_given, rule_given, state_given
 use dp_break::{BreakKind, BreakRequest, HitRule, is_of_function};
 use dp_command::BreakpointSet;
 use dp_file_uris::requested_file;
+use dp_packet::ErrorCode;
 use dp_tree::Bundle;
 use dp_value::Bytes;
 use std::alloc::Global;
@@ -61,10 +62,10 @@ impl Words {
         ensures refused { IfErr result (IsCode (first_code (spec.word_tests set.now))) }
     {
         let Some(kind) = kind_named(set.kind.as_slice()) else {
-            return Err(BreakpointError::Code(201));
+            return Err(BreakpointError::Code(ErrorCode::TypeNotSupported));
         };
         if lacks_part(kind, set) || has_part_too_many(kind, set) {
-            return Err(BreakpointError::Code(3));
+            return Err(BreakpointError::Code(ErrorCode::InvalidOptions));
         }
         Ok(Words {
             kind,
@@ -94,7 +95,7 @@ fn file_given(
     match value {
         None => Ok(None),
         Some(value) => match requested_file(alloc, bundle, value.as_slice())? {
-            None => Err(BreakpointError::Code(200)),
+            None => Err(BreakpointError::Code(ErrorCode::BreakpointNotSet)),
             file => Ok(file),
         },
     }

@@ -6,6 +6,7 @@ ghost use Rattle.dp_breakpoint_commands.specs.Words as spec;
 use crate::errors::BreakpointError;
 use dp_break::{BreakKind, HitRule};
 use dp_command::number_of;
+use dp_packet::ErrorCode;
 use dp_value::Bytes;
 
 /// What makes a breakpoint of this type stop: `line`, `call`, `return` or `conditional`.
@@ -75,13 +76,13 @@ fn flag_named(word: &[u8]) -> Option<bool>
 pub(crate) fn rule_given(word: &Option<Bytes>) -> Result<Option<HitRule>, BreakpointError>
     ensures meaning { IfOk result (λ meaning. meaning ≡ spec.meant spec.rule_named word.now) }
     ensures accepted { OnOk result (spec.has_no_meaning spec.rule_named word.now ≡ false) }
-    ensures refused { IfErr result (λ e. (e ≡ BreakpointError.Code 3)
+    ensures refused { IfErr result (λ e. (e ≡ BreakpointError.Code ErrorCode.InvalidOptions)
         × (spec.has_no_meaning spec.rule_named word.now ≡ true)) }
 {
     match word {
         None => Ok(None),
         Some(word) => match rule_named(word.as_slice()) {
-            None => Err(BreakpointError::Code(3)),
+            None => Err(BreakpointError::Code(ErrorCode::InvalidOptions)),
             rule => Ok(rule),
         },
     }
@@ -92,13 +93,13 @@ pub(crate) fn rule_given(word: &Option<Bytes>) -> Result<Option<HitRule>, Breakp
 pub(crate) fn state_given(word: &Option<Bytes>) -> Result<Option<bool>, BreakpointError>
     ensures meaning { IfOk result (λ meaning. meaning ≡ spec.meant spec.state_named word.now) }
     ensures accepted { OnOk result (spec.has_no_meaning spec.state_named word.now ≡ false) }
-    ensures refused { IfErr result (λ e. (e ≡ BreakpointError.Code 204)
+    ensures refused { IfErr result (λ e. (e ≡ BreakpointError.Code ErrorCode.InvalidBreakpointState)
         × (spec.has_no_meaning spec.state_named word.now ≡ true)) }
 {
     match word {
         None => Ok(None),
         Some(word) => match state_named(word.as_slice()) {
-            None => Err(BreakpointError::Code(204)),
+            None => Err(BreakpointError::Code(ErrorCode::InvalidBreakpointState)),
             enabled => Ok(enabled),
         },
     }
@@ -109,13 +110,13 @@ pub(crate) fn state_given(word: &Option<Bytes>) -> Result<Option<bool>, Breakpoi
 pub(crate) fn flag_given(word: &Option<Bytes>) -> Result<Option<bool>, BreakpointError>
     ensures meaning { IfOk result (λ meaning. meaning ≡ spec.meant spec.flag_named word.now) }
     ensures accepted { OnOk result (spec.has_no_meaning spec.flag_named word.now ≡ false) }
-    ensures refused { IfErr result (λ e. (e ≡ BreakpointError.Code 3)
+    ensures refused { IfErr result (λ e. (e ≡ BreakpointError.Code ErrorCode.InvalidOptions)
         × (spec.has_no_meaning spec.flag_named word.now ≡ true)) }
 {
     match word {
         None => Ok(None),
         Some(word) => match flag_named(word.as_slice()) {
-            None => Err(BreakpointError::Code(3)),
+            None => Err(BreakpointError::Code(ErrorCode::InvalidOptions)),
             flag => Ok(flag),
         },
     }
@@ -126,13 +127,13 @@ pub(crate) fn flag_given(word: &Option<Bytes>) -> Result<Option<bool>, Breakpoin
 pub(crate) fn number_given(word: &Option<Bytes>) -> Result<Option<u32>, BreakpointError>
     ensures meaning { IfOk result (λ meaning. meaning ≡ spec.meant spec.number_in word.now) }
     ensures accepted { OnOk result (spec.has_no_meaning spec.number_in word.now ≡ false) }
-    ensures refused { IfErr result (λ e. (e ≡ BreakpointError.Code 3)
+    ensures refused { IfErr result (λ e. (e ≡ BreakpointError.Code ErrorCode.InvalidOptions)
         × (spec.has_no_meaning spec.number_in word.now ≡ true)) }
 {
     match word {
         None => Ok(None),
         Some(word) => match number_of(word.as_slice()) {
-            None => Err(BreakpointError::Code(3)),
+            None => Err(BreakpointError::Code(ErrorCode::InvalidOptions)),
             number => Ok(number),
         },
     }

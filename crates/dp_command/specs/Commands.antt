@@ -8,7 +8,11 @@ use Rattle.dp_command.specs.declared.names.CommandName.{CommandName}
 use Rattle.dp_command.specs.declared.names.CommandName.TheVariants.{Status, FeatureGet, FeatureSet, Run, StepInto, StepOver, StepOut, Stop, Detach, BreakpointSet, BreakpointGet, BreakpointRemove, BreakpointUpdate, BreakpointList, StackDepth, StackGet, ContextNames, ContextGet, PropertyGet, PropertyValue, PropertySet, Source, Stdout, Stderr, Eval}
 use Rattle.dp_command.specs.declared.command.Command.{Command}
 use Rattle.dp_command.specs.declared.command.Request.{Request}
-use Rattle.dp_command.specs.declared.command.Request.TheVariants as request
+use Rattle.dp_command.specs.declared.command.Request.TheVariants.{Session, Breakpoints, Look, Write}
+use Rattle.dp_command.specs.declared.command.SessionRequest.TheVariants as session
+use Rattle.dp_command.specs.declared.command.BreakpointRequest.TheVariants as breakpoints
+use Rattle.dp_command.specs.declared.command.LookRequest.TheVariants as look
+use Rattle.dp_command.specs.declared.command.WriteRequest.TheVariants as write
 use Rattle.dp_command.specs.declared.command.Continuation.TheVariants as continuation
 use Rattle.dp_command.specs.declared.command.Finish.TheVariants as finish
 use Rattle.dp_command.specs.declared.command.BreakpointAction.TheVariants as action
@@ -28,7 +32,7 @@ place_of options = record {
 }
 
 abbrev pub breakpoint_set : Line → Request
-breakpoint_set line = request.BreakpointSet (record {
+breakpoint_set line = Breakpoints (breakpoints.Set (record {
   kind = text_given letter.t line.options;
   state = given letter.s line.options;
   file = given letter.f line.options;
@@ -39,66 +43,68 @@ breakpoint_set line = request.BreakpointSet (record {
   hit_rule = given letter.o line.options;
   temporary = given letter.r line.options;
   expression = line.payload;
-})
+}))
 
 abbrev pub breakpoint_update : Options → Request
-breakpoint_update options = request.BreakpointUpdate (record {
+breakpoint_update options = Breakpoints (breakpoints.Update (record {
   id = number_or_zero letter.d options;
   state = given letter.s options;
   line = number_given letter.n options;
   hit_value = number_given letter.h options;
   hit_rule = given letter.o options;
-})
+}))
 
 abbrev pub property_set : Line → Request
-property_set line = request.PropertySet (record {
+property_set line = Write (write.PropertySet (record {
   place = place_of line.options;
   kind = given letter.t line.options;
   length = number_given letter.l line.options;
   value = unwrap_or line.payload [];
-})
+}))
 
 abbrev pub source : Options → Request
-source options = request.Source (record {
+source options = Look (look.Source (record {
   file = given letter.f options;
   first = number_given letter.b options;
   last = number_given letter.e options;
-})
+}))
 
 -- what a command of this name asks for
 unfoldable pub request_of : CommandName → Line → Request
-request_of Status line = request.Status
-request_of FeatureGet line = request.FeatureGet (text_given letter.n line.options)
+request_of Status line = Session session.Status
+request_of FeatureGet line = Session (session.FeatureGet (text_given letter.n line.options))
 request_of FeatureSet line =
-    request.FeatureSet (text_given letter.n line.options) (text_given letter.v line.options)
-request_of Run line = request.Continue continuation.Run
-request_of StepInto line = request.Continue continuation.StepInto
-request_of StepOver line = request.Continue continuation.StepOver
-request_of StepOut line = request.Continue continuation.StepOut
-request_of Stop line = request.Finish finish.Stop
-request_of Detach line = request.Finish finish.Detach
+    Session (session.FeatureSet (text_given letter.n line.options)
+    (text_given letter.v line.options))
+request_of Run line = Session (session.Continue continuation.Run)
+request_of StepInto line = Session (session.Continue continuation.StepInto)
+request_of StepOver line = Session (session.Continue continuation.StepOver)
+request_of StepOut line = Session (session.Continue continuation.StepOut)
+request_of Stop line = Session (session.Finish finish.Stop)
+request_of Detach line = Session (session.Finish finish.Detach)
 request_of BreakpointSet line = breakpoint_set line
 request_of BreakpointGet line =
-    request.Breakpoint action.Get (number_or_zero letter.d line.options)
+    Breakpoints (breakpoints.One action.Get (number_or_zero letter.d line.options))
 request_of BreakpointRemove line =
-    request.Breakpoint action.Remove (number_or_zero letter.d line.options)
+    Breakpoints (breakpoints.One action.Remove (number_or_zero letter.d line.options))
 request_of BreakpointUpdate line = breakpoint_update line.options
-request_of BreakpointList line = request.BreakpointList
-request_of StackDepth line = request.StackDepth
-request_of StackGet line = request.StackGet (number_given letter.d line.options)
-request_of ContextNames line = request.ContextNames
+request_of BreakpointList line = Breakpoints breakpoints.List
+request_of StackDepth line = Look look.StackDepth
+request_of StackGet line = Look (look.StackGet (number_given letter.d line.options))
+request_of ContextNames line = Look look.ContextNames
 request_of ContextGet line =
-    request.ContextGet (number_or_zero letter.d line.options) (number_or_zero letter.c line.options)
+    Look (look.ContextGet (number_or_zero letter.d line.options)
+    (number_or_zero letter.c line.options))
 request_of PropertyGet line =
-    request.PropertyGet (place_of line.options) (number_or_zero letter.p line.options)
-    (number_given letter.m line.options)
+    Look (look.PropertyGet (place_of line.options) (number_or_zero letter.p line.options)
+    (number_given letter.m line.options))
 request_of PropertyValue line =
-    request.PropertyValue (place_of line.options) (number_given letter.m line.options)
+    Look (look.PropertyValue (place_of line.options) (number_given letter.m line.options))
 request_of PropertySet line = property_set line
 request_of Source line = source line.options
-request_of Stdout line = request.Redirect stream.Stdout (mode_given letter.c line.options)
-request_of Stderr line = request.Redirect stream.Stderr (mode_given letter.c line.options)
-request_of Eval line = request.Eval (unwrap_or line.payload [])
+request_of Stdout line = Session (session.Redirect stream.Stdout (mode_given letter.c line.options))
+request_of Stderr line = Session (session.Redirect stream.Stderr (mode_given letter.c line.options))
+request_of Eval line = Write (write.Eval (unwrap_or line.payload []))
 
 abbrev pub command_as : Line → CommandName → Command
 command_as line name = record { id = id_of line; request = request_of name line }

@@ -14,6 +14,8 @@ use Rattle.dp_command.specs.declared.slots.Presence.{Presence}
 use Rattle.dp_command.specs.declared.slots.Presence.TheVariants as presence
 use Rattle.dp_command.specs.Letters as letter
 use Rattle.dp_command.specs.Names.{name_of}
+use Rattle.dp_packet.specs.declared.error_codes.ErrorCode.{ErrorCode}
+use Rattle.dp_packet.specs.declared.error_codes.ErrorCode.TheVariants as code
 use Rattle.dp_value.specs.Decimals.{decimal_in}
 use Rattle.dp_command.specs.Numbers.{greatest}
 use Rattle.dp_command.specs.Options.{Options, given, is_given, has_duplicate, mode_of}
@@ -99,11 +101,11 @@ abbrev pub first_refusal : Line → Option Refusal
 first_refusal line = find (holds_of line) (Duplicate ∷ Unimplemented ∷ NoId ∷ InvalidOptions ∷ [])
 
 -- the code of an error response. DBGp 1.0, "Error Codes"
-abbrev pub code_of : Refusal → ℕ
-code_of Duplicate = 2
-code_of Unimplemented = 4
-code_of NoId = 3
-code_of InvalidOptions = 3
+abbrev pub code_of : Refusal → ErrorCode
+code_of Duplicate = code.DuplicateArguments
+code_of Unimplemented = code.UnimplementedCommand
+code_of NoId = code.InvalidOptions
+code_of InvalidOptions = code.InvalidOptions
 
 -- the test of a refusal, with its code
 abbrev pub coded : Line → Refusal → Test

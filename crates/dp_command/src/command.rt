@@ -10,37 +10,54 @@ pub struct Command {
     pub request: Request,
 }
 
-/// What a command asks for: one variant for each row of the table of commands. An option that is
-/// tested against the program or the session is kept as it was given. `Command::of` gives no number
-/// above 2,147,483,647.
+/// What a command asks for, by what answers it. Each row of the table of commands has its variant in
+/// a family. An option that is tested against the program or the session is kept as it was given.
+/// `Command::of` gives no number above 2,147,483,647.
 #[derive(Debug, Drop)]
 pub enum Request {
+    /// Answered from what the session itself knows, and from where its program goes on to.
+    Session(SessionRequest),
+    /// Answered from the breakpoints that are held.
+    Breakpoints(BreakpointRequest),
+    /// A look at the program.
+    Look(LookRequest),
+    /// A write to the program.
+    Write(WriteRequest),
+}
+
+/// What is asked of the session itself.
+#[derive(Debug, Drop)]
+pub enum SessionRequest {
     /// `status`
     Status,
     /// `feature_get`
-    FeatureGet {
-        name: Bytes,
-    },
+    FeatureGet { name: Bytes },
     /// `feature_set`
-    FeatureSet {
-        name: Bytes,
-        value: Bytes,
-    },
+    FeatureSet { name: Bytes, value: Bytes },
     /// `run`, `step_into`, `step_over`, `step_out`
     Continue(Continuation),
     /// `stop`, `detach`
     Finish(Finish),
+    /// `stdout`, `stderr`
+    Redirect { stream: Stream, mode: StreamMode },
+}
+
+/// What is asked of the breakpoints.
+#[derive(Debug, Drop)]
+pub enum BreakpointRequest {
     /// `breakpoint_set`
-    BreakpointSet(BreakpointSet),
+    Set(BreakpointSet),
     /// `breakpoint_get`, `breakpoint_remove`
-    Breakpoint {
-        action: BreakpointAction,
-        id: u32,
-    },
+    One { action: BreakpointAction, id: u32 },
     /// `breakpoint_update`
-    BreakpointUpdate(BreakpointUpdate),
+    Update(BreakpointUpdate),
     /// `breakpoint_list`
-    BreakpointList,
+    List,
+}
+
+/// What is to be shown of the program.
+#[derive(Debug, Drop)]
+pub enum LookRequest {
     /// `stack_depth`
     StackDepth,
     /// `stack_get`, of this level alone where one is given.
@@ -65,19 +82,17 @@ pub enum Request {
         place: PropertyPlace,
         max_data: Option<u32>,
     },
-    /// `property_set`
-    PropertySet(PropertySet),
     /// `source`
     Source(SourceRange),
-    /// `stdout`, `stderr`
-    Redirect {
-        stream: Stream,
-        mode: StreamMode,
-    },
+}
+
+/// What is to be written to the program.
+#[derive(Debug, Drop)]
+pub enum WriteRequest {
+    /// `property_set`
+    PropertySet(PropertySet),
     /// `eval`
-    Eval {
-        expression: Bytes,
-    },
+    Eval { expression: Bytes },
 }
 
 /// How far the program runs on.

@@ -4,6 +4,7 @@ ghost use Rattle.std.specs.Prelude.{◌≡◌};
 ghost use Rattle.dp_command.specs.declared.errors.LineError.TheVariants.{Memory};
 ghost use Rattle.dp_command.specs.Refusals.{code_of};
 
+use dp_packet::ErrorCode;
 use std::alloc::{AllocError, AllocFailed};
 use thiserror::Error;
 
@@ -48,14 +49,14 @@ pub enum Refusal {
 }
 
 impl Refusal {
-    /// The code of the error response: 2, 4, 3 and 3. DBGp 1.0, "Error Codes". Takes no memory.
-    pub fn code(self) -> u16
+    /// The code of the error response. DBGp 1.0, "Error Codes". Takes no memory.
+    pub fn code(self) -> ErrorCode
         ensures { result ≡ code_of self }
     {
         match self {
-            Refusal::Duplicate => 2,
-            Refusal::Unimplemented => 4,
-            Refusal::NoId | Refusal::InvalidOptions => 3,
+            Refusal::Duplicate => ErrorCode::DuplicateArguments,
+            Refusal::Unimplemented => ErrorCode::UnimplementedCommand,
+            Refusal::NoId | Refusal::InvalidOptions => ErrorCode::InvalidOptions,
         }
     }
 }
@@ -63,9 +64,9 @@ impl Refusal {
 /// Why a line gave no typed command.
 #[derive(Clone, Copy, Debug, Error, PartialEq, Eq)]
 pub enum CommandError {
-    /// The code of the error response: 2, 4 or 3.
-    #[error("error {0}")]
-    Code(u16),
+    /// The code of the error response.
+    #[error("error {0:?}")]
+    Code(ErrorCode),
     /// Out of memory.
     #[error("out of memory")]
     Memory,

@@ -20,8 +20,9 @@ mod values;
 
 pub use addressee::Addressee;
 pub use command::{
-    BreakpointAction, BreakpointSet, BreakpointUpdate, Command, Continuation, Finish,
-    PropertyPlace, PropertySet, Request, SourceRange, Stream, StreamMode,
+    BreakpointAction, BreakpointRequest, BreakpointSet, BreakpointUpdate, Command, Continuation,
+    Finish, LookRequest, PropertyPlace, PropertySet, Request, SessionRequest, SourceRange, Stream,
+    StreamMode, WriteRequest,
 };
 pub use dp_value::Memory;
 pub use errors::{CommandError, LineError, Refusal};

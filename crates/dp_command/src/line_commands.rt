@@ -7,8 +7,9 @@ ghost use Rattle.dp_command.specs.Options.{mode_given, number_or_zero};
 ghost use Rattle.dp_command.specs.Refusals.{code_of, first_refusal, fits_row, is_id};
 
 use crate::command::{
-    BreakpointAction, BreakpointSet, BreakpointUpdate, Command, Continuation, Finish,
-    PropertyPlace, PropertySet, Request, SourceRange, Stream,
+    BreakpointAction, BreakpointRequest, BreakpointSet, BreakpointUpdate, Command, Continuation,
+    Finish, LookRequest, PropertyPlace, PropertySet, Request, SessionRequest, SourceRange, Stream,
+    WriteRequest,
 };
 use crate::errors::{CommandError, Refusal};
 use crate::line::Line;
@@ -70,23 +71,29 @@ fn request_of(alloc: Global, name: CommandName, line: &Line) -> Result<Request, 
     ensures { IfOk result (λ request. request ≡ spec.request_of name line.now) }
 {
     match name {
-        CommandName::Status => Ok(Request::Status),
+        CommandName::Status => Ok(Request::Session(SessionRequest::Status)),
         CommandName::FeatureGet => feature_get(alloc, line),
         CommandName::FeatureSet => feature_set(alloc, line),
-        CommandName::Run => Ok(Request::Continue(Continuation::Run)),
-        CommandName::StepInto => Ok(Request::Continue(Continuation::StepInto)),
-        CommandName::StepOver => Ok(Request::Continue(Continuation::StepOver)),
-        CommandName::StepOut => Ok(Request::Continue(Continuation::StepOut)),
-        CommandName::Stop => Ok(Request::Finish(Finish::Stop)),
-        CommandName::Detach => Ok(Request::Finish(Finish::Detach)),
+        CommandName::Run => Ok(Request::Session(SessionRequest::Continue(Continuation::Run))),
+        CommandName::StepInto => Ok(Request::Session(SessionRequest::Continue(
+            Continuation::StepInto,
+        ))),
+        CommandName::StepOver => Ok(Request::Session(SessionRequest::Continue(
+            Continuation::StepOver,
+        ))),
+        CommandName::StepOut => Ok(Request::Session(SessionRequest::Continue(
+            Continuation::StepOut,
+        ))),
+        CommandName::Stop => Ok(Request::Session(SessionRequest::Finish(Finish::Stop))),
+        CommandName::Detach => Ok(Request::Session(SessionRequest::Finish(Finish::Detach))),
         CommandName::BreakpointSet => breakpoint_set(alloc, line),
         CommandName::BreakpointGet => Ok(breakpoint(BreakpointAction::Get, line)),
         CommandName::BreakpointRemove => Ok(breakpoint(BreakpointAction::Remove, line)),
         CommandName::BreakpointUpdate => breakpoint_update(alloc, line),
-        CommandName::BreakpointList => Ok(Request::BreakpointList),
-        CommandName::StackDepth => Ok(Request::StackDepth),
+        CommandName::BreakpointList => Ok(Request::Breakpoints(BreakpointRequest::List)),
+        CommandName::StackDepth => Ok(Request::Look(LookRequest::StackDepth)),
         CommandName::StackGet => Ok(stack_get(line)),
-        CommandName::ContextNames => Ok(Request::ContextNames),
+        CommandName::ContextNames => Ok(Request::Look(LookRequest::ContextNames)),
         CommandName::ContextGet => Ok(context_get(line)),
         CommandName::PropertyGet => property_get(alloc, line),
         CommandName::PropertyValue => property_value(alloc, line),
@@ -103,7 +110,7 @@ fn feature_get(alloc: Global, line: &Line) -> Result<Request, Memory>
     ensures { IfOk result (λ r. r ≡ spec.request_of CommandName.FeatureGet line.now) }
 {
     let name = text_given(alloc, line.options.as_slice(), b'n')?;
-    Ok(Request::FeatureGet { name })
+    Ok(Request::Session(SessionRequest::FeatureGet { name }))
 }
 
 #[tactic(auto, unfolding(crate::specs::Commands::request_of))]
@@ -113,14 +120,14 @@ fn feature_set(alloc: Global, line: &Line) -> Result<Request, Memory>
     let options = line.options.as_slice();
     let name = text_given(alloc, options, b'n')?;
     let value = text_given(alloc, options, b'v')?;
-    Ok(Request::FeatureSet { name, value })
+    Ok(Request::Session(SessionRequest::FeatureSet { name, value }))
 }
 
 fn breakpoint_set(alloc: Global, line: &Line) -> Result<Request, Memory>
     ensures { IfOk result (λ r. r ≡ spec.breakpoint_set line.now) }
 {
     let options = line.options.as_slice();
-    Ok(Request::BreakpointSet(BreakpointSet {
+    Ok(Request::Breakpoints(BreakpointRequest::Set(BreakpointSet {
         kind: text_given(alloc, options, b't')?,
         state: copy_of(alloc, options, b's')?,
         file: copy_of(alloc, options, b'f')?,
@@ -131,7 +138,7 @@ fn breakpoint_set(alloc: Global, line: &Line) -> Result<Request, Memory>
         hit_rule: copy_of(alloc, options, b'o')?,
         temporary: copy_of(alloc, options, b'r')?,
         expression: payload_of(line)?,
-    }))
+    })))
 }
 
 fn payload_of(line: &Line) -> Result<Option<Bytes>, Memory>
@@ -153,23 +160,24 @@ fn payload_text(alloc: Global, line: &Line) -> Result<Bytes, Memory>
 }
 
 fn breakpoint(action: BreakpointAction, line: &Line) -> Request
-    ensures { result ≡ Request.Breakpoint action (number_or_zero letter.d line.now.options) }
+    ensures { result
+        ≡ Request.Breakpoints (BreakpointRequest.One action (number_or_zero letter.d line.now.options)) }
 {
     let id = number_or_zero(line.options.as_slice(), b'd');
-    Request::Breakpoint { action, id }
+    Request::Breakpoints(BreakpointRequest::One { action, id })
 }
 
 fn breakpoint_update(alloc: Global, line: &Line) -> Result<Request, Memory>
     ensures { IfOk result (λ r. r ≡ spec.breakpoint_update line.now.options) }
 {
     let options = line.options.as_slice();
-    Ok(Request::BreakpointUpdate(BreakpointUpdate {
+    Ok(Request::Breakpoints(BreakpointRequest::Update(BreakpointUpdate {
         id: number_or_zero(options, b'd'),
         state: copy_of(alloc, options, b's')?,
         line: number_given(options, b'n'),
         hit_value: number_given(options, b'h'),
         hit_rule: copy_of(alloc, options, b'o')?,
-    }))
+    })))
 }
 
 #[tactic(auto, unfolding(crate::specs::Commands::request_of))]
@@ -177,7 +185,7 @@ fn stack_get(line: &Line) -> Request
     ensures { result ≡ spec.request_of CommandName.StackGet line.now }
 {
     let level = number_given(line.options.as_slice(), b'd');
-    Request::StackGet { level }
+    Request::Look(LookRequest::StackGet { level })
 }
 
 #[tactic(auto, unfolding(crate::specs::Commands::request_of))]
@@ -185,10 +193,10 @@ fn context_get(line: &Line) -> Request
     ensures { result ≡ spec.request_of CommandName.ContextGet line.now }
 {
     let options = line.options.as_slice();
-    Request::ContextGet {
+    Request::Look(LookRequest::ContextGet {
         level: number_or_zero(options, b'd'),
         context: number_or_zero(options, b'c'),
-    }
+    })
 }
 
 fn place_of(alloc: Global, line: &Line) -> Result<PropertyPlace, Memory>
@@ -208,11 +216,11 @@ fn property_get(alloc: Global, line: &Line) -> Result<Request, Memory>
 {
     let place = place_of(alloc, line)?;
     let options = line.options.as_slice();
-    Ok(Request::PropertyGet {
+    Ok(Request::Look(LookRequest::PropertyGet {
         place,
         page: number_or_zero(options, b'p'),
         max_data: number_given(options, b'm'),
-    })
+    }))
 }
 
 #[tactic(auto, unfolding(crate::specs::Commands::request_of))]
@@ -221,37 +229,38 @@ fn property_value(alloc: Global, line: &Line) -> Result<Request, Memory>
 {
     let place = place_of(alloc, line)?;
     let max_data = number_given(line.options.as_slice(), b'm');
-    Ok(Request::PropertyValue { place, max_data })
+    Ok(Request::Look(LookRequest::PropertyValue { place, max_data }))
 }
 
 fn property_set(alloc: Global, line: &Line) -> Result<Request, Memory>
     ensures { IfOk result (λ r. r ≡ spec.property_set line.now) }
 {
     let options = line.options.as_slice();
-    Ok(Request::PropertySet(PropertySet {
+    Ok(Request::Write(WriteRequest::PropertySet(PropertySet {
         place: place_of(alloc, line)?,
         kind: copy_of(alloc, options, b't')?,
         length: number_given(options, b'l'),
         value: payload_text(alloc, line)?,
-    }))
+    })))
 }
 
 fn source(alloc: Global, line: &Line) -> Result<Request, Memory>
     ensures { IfOk result (λ r. r ≡ spec.source line.now.options) }
 {
     let options = line.options.as_slice();
-    Ok(Request::Source(SourceRange {
+    Ok(Request::Look(LookRequest::Source(SourceRange {
         file: copy_of(alloc, options, b'f')?,
         first: number_given(options, b'b'),
         last: number_given(options, b'e'),
-    }))
+    })))
 }
 
 fn redirect(stream: Stream, line: &Line) -> Request
-    ensures { result ≡ Request.Redirect stream (mode_given letter.c line.now.options) }
+    ensures { result
+        ≡ Request.Session (SessionRequest.Redirect stream (mode_given letter.c line.now.options)) }
 {
     let mode = mode_given(line.options.as_slice(), b'c');
-    Request::Redirect { stream, mode }
+    Request::Session(SessionRequest::Redirect { stream, mode })
 }
 
 #[tactic(auto, unfolding(crate::specs::Commands::request_of))]
@@ -259,5 +268,5 @@ fn eval(alloc: Global, line: &Line) -> Result<Request, Memory>
     ensures { IfOk result (λ r. r ≡ spec.request_of CommandName.Eval line.now) }
 {
     let expression = payload_text(alloc, line)?;
-    Ok(Request::Eval { expression })
+    Ok(Request::Write(WriteRequest::Eval { expression }))
 }

@@ -1,3 +1,7 @@
+pub mod Free
+pub mod Lists
+pub mod MachineStops
+pub mod StopMoments
 pub mod WriteAnswers
 pub mod RefusalLaws
 pub mod ResponseSizes

@@ -4,8 +4,8 @@ use Rattle.std.proofs.Common.{◌≡◌, ℕ, zero, suc, ◌<◌, ◌≤◌, Boo
 use Rattle.std.specs.Prelude.{if◌then◌else◌, nat_eq, slice_get}
 use Rattle.std.proofs.lemmas.Bool.Decides.{nat_tests}
 use Rattle.dp_tree.specs.declared.bundle.Bundle.{Bundle}
-use Rattle.dp_command.specs.declared.command.Request.{Request}
-use Rattle.dp_continuation.specs.Stops.{depth_of}
+use Rattle.dp_command.specs.declared.command.WriteRequest.{WriteRequest}
+use Rattle.dp_engine.specs.Stops.{depth_of}
 use Rattle.dp_features.specs.Features.{Features}
 use Rattle.dp_meaning.specs.declared.writes.NumberedWrite.{NumberedWrite}
 use Rattle.dp_meaning.specs.declared.writes.Write.{Write}
@@ -96,7 +96,7 @@ machine_more bundle bound ws n w m some stands =
 -- ---- what a session keeps of it
 
 module _ (bundle : Bundle) (bound : ℕ) (features : Features) (machine : Machine) (after : State)
-    (ws kept : List NumberedWrite) (moment : ℕ) (command id : Text) (r : Request) (response : Response)
+    (ws kept : List NumberedWrite) (moment : ℕ) (command id : Text) (r : WriteRequest) (response : Response)
     (made : IsKeptWrite bundle features machine.state after ws kept moment command id r response) where
   -- in a break
   pub machine_kept : (failed : Bool) (position : Position) → phase_of position ≡ phase.Break

@@ -7,23 +7,32 @@ use Rattle.dp_view_commands.specs.Views.{code_in, view_refusal, view_response}
 use Rattle.dp_view_commands.proofs.Sent.{sent as shows}
 use Rattle.dp_write_commands.specs.Responses.{code_in as code_written, write_refusal, write_response}
 use Rattle.dp_engine.proofs.WriteAnswers.{no_error}
+use Rattle.dp_packet.specs.declared.error_codes.ErrorCode.{ErrorCode}
+use Rattle.dp_packet.specs.declared.error_codes.ErrorCode.TheVariants.{InvalidOptions, CommandNotAvailable}
 use Rattle.dp_packet.specs.declared.packet.Body.{Body}
 use Rattle.dp_packet.specs.declared.packet.Body.TheVariants as body
 use Rattle.dp_packet.specs.declared.packet.Response.{Response}
-use Rattle.dp_command.specs.declared.command.Request.{Request}
-use Rattle.dp_command.specs.declared.command.Request.TheVariants as request
 use Rattle.dp_command.specs.declared.command.BreakpointAction.TheVariants.{Get, Remove}
+use Rattle.dp_command.specs.declared.command.BreakpointRequest.{BreakpointRequest}
+use Rattle.dp_command.specs.declared.command.BreakpointRequest.TheVariants as asked
+use Rattle.dp_command.specs.declared.command.Finish.TheVariants.{Stop, Detach}
+use Rattle.dp_command.specs.declared.command.LookRequest.{LookRequest}
+use Rattle.dp_command.specs.declared.command.Request.{Request}
+use Rattle.dp_command.specs.declared.command.Request.TheVariants.{Session, Breakpoints, Look, Write}
+use Rattle.dp_command.specs.declared.command.SessionRequest.{SessionRequest}
+use Rattle.dp_command.specs.declared.command.SessionRequest.TheVariants as session
+use Rattle.dp_command.specs.declared.command.Stream.TheVariants.{Stdout, Stderr}
+use Rattle.dp_command.specs.declared.command.WriteRequest.{WriteRequest}
 use Rattle.dp_break.specs.Tables.{Table}
 use Rattle.dp_breakpoint_commands.specs.Commands.{breakpoint_response}
 use Rattle.dp_tree.specs.declared.bundle.Bundle.{Bundle}
 use Rattle.dp_wire.specs.Frames.{packet_limit}
 use Rattle.dp_command.specs.declared.command.Continuation.{Continuation}
-use Rattle.dp_command.specs.declared.command.Continuation.TheVariants as continuation
 use Rattle.dp_command.specs.declared.command.StreamMode.{StreamMode}
 use Rattle.dp_command.specs.declared.command.StreamMode.TheVariants.{Disable, Copy, Redirect}
 use Rattle.dp_command.specs.declared.line.Line.{Line}
 use Rattle.dp_command.specs.declared.names.CommandName.{CommandName}
-use Rattle.dp_command.specs.declared.names.CommandName.TheVariants.{Status, FeatureGet, FeatureSet, Run, StepInto, StepOver, StepOut, Stop, Detach, BreakpointSet, BreakpointGet, BreakpointRemove, BreakpointUpdate, BreakpointList, StackDepth, StackGet, ContextNames, ContextGet, PropertyGet, PropertyValue, PropertySet, Source, Stdout, Stderr, Eval}
+use Rattle.dp_command.specs.declared.names.CommandName.TheVariants.{PropertySet, Eval}
 use Rattle.dp_command.specs.Commands.{request_of}
 use Rattle.dp_command.specs.Lines.{line_of}
 use Rattle.dp_command.specs.Names.{name_of}
@@ -34,24 +43,23 @@ use Rattle.dp_engine.specs.declared.states.Phase.TheVariants.{Starting, Break, S
 use Rattle.dp_conversation.specs.declared.responder.Answer.{Answer}
 use Rattle.dp_conversation.specs.Folds.{reply_of}
 use Rattle.dp_engine.specs.declared.session.SessionEnd.{SessionEnd}
-use Rattle.dp_engine.specs.Answers.{Turn, answer, command_in, continued, done_on, id_in, in_packet, refused, response_in, sent, session_done, shown, to_ide, to_program, turn, turn_by_command, turn_of, written}
+use Rattle.dp_engine.specs.Answers.{Turn, answer, command_in, continued, id_in, in_packet, performed, refused, response_in, sent, session_done, shown, to_ide, to_program, turn, turn_by_command, turn_of, written}
 use Rattle.dp_engine.specs.Refused.{IsAnsweredBy, error_alone}
-use Rattle.dp_engine.specs.Refusals.{of_command, own_tests, row_tests, tests, tests_for, tests_on, refusal, refusal_of_line}
+use Rattle.dp_engine.specs.Refusals.{of_command, own_tests, row_tests, tests, tests_for, refusal, refusal_of_line}
 use Rattle.dp_engine.specs.Responses.{fault_in, response, response_text, value_body}
-use Rattle.dp_engine.specs.declared.sides.Side.{Side}
-use Rattle.dp_engine.specs.declared.sides.Side.TheVariants.{Session, Breakpoints, Program, Writes}
 use Rattle.dp_engine.specs.Session.{State, here, output_so_far, program_of, written_between}
-use Rattle.dp_engine.specs.Sides.{side_of}
 use Rattle.dp_engine.specs.States.{allows, at_moment}
+use Rattle.dp_engine.specs.inner.Turns.{IsTimely}
+use Rattle.dp_packet.specs.Messages.{number}
 use Rattle.dp_packet.specs.Parts.{Text}
 
 -- the first test does not hold
-pub passed : (holds : Bool) (code : ℕ) (more : List Test) → first_code ((holds, code) ∷ more) ≡ None
+pub passed : (holds : Bool) (code : ErrorCode) (more : List Test) → first_code ((holds, code) ∷ more) ≡ None
     → (holds ≡ false) × (first_code more ≡ None)
 passed true code more e = absurd cc
 passed false code more e = (refl, e)
 
-pub first_for : (code : Option ℕ) → first_code (tests_for code) ≡ code
+pub first_for : (code : Option ErrorCode) → first_code (tests_for code) ≡ code
 first_for None = refl
 first_for (Some code) = refl
 
@@ -73,45 +81,26 @@ none_in : (what : Body) → ((code : ℕ) → what ≢ body.Fault code) → faul
 none_in (body.Fault code) h = absurd (h code refl)
 none_in what h = refl
 
--- what is answered from the session, by its name, is done
-session_none : (command id : Text) (name : CommandName) (line : Line) (state : State)
-    → side_of (request_of name line) ≡ Session
-    → fault_of (session_done command id (request_of name line) state) ≡ None
-unfolding request_of
-session_none command id Status line state s = refl
-session_none command id FeatureGet line state s = value_is_none _
-session_none command id FeatureSet line state s = refl
-session_none command id Run line state s = continued_none command id continuation.Run state.phase state
-session_none command id StepInto line state s = continued_none command id continuation.StepInto state.phase state
-session_none command id StepOver line state s = continued_none command id continuation.StepOver state.phase state
-session_none command id StepOut line state s = continued_none command id continuation.StepOut state.phase state
-session_none command id Stop line state s = refl
-session_none command id Detach line state s = refl
-session_none command id PropertySet line state s = absurd cc
-session_none command id Stdout line state s = refl
-session_none command id Stderr line state s = refl
-session_none command id Eval line state s = absurd cc
-session_none command id BreakpointSet line state s = absurd cc
-session_none command id BreakpointGet line state s = absurd cc
-session_none command id BreakpointRemove line state s = absurd cc
-session_none command id BreakpointUpdate line state s = absurd cc
-session_none command id BreakpointList line state s = absurd cc
-session_none command id StackDepth line state s = absurd cc
-session_none command id StackGet line state s = absurd cc
-session_none command id ContextNames line state s = absurd cc
-session_none command id ContextGet line state s = absurd cc
-session_none command id PropertyGet line state s = absurd cc
-session_none command id PropertyValue line state s = absurd cc
-session_none command id Source line state s = absurd cc
+-- what is answered from the session is no error
+session_none : (command id : Text) (r : SessionRequest) (state : State)
+    → fault_of (session_done command id r state) ≡ None
+session_none command id session.Status state = refl
+session_none command id (session.FeatureGet name) state = value_is_none _
+session_none command id (session.FeatureSet name value) state = refl
+session_none command id (session.Continue mode) state = continued_none command id mode state.phase state
+session_none command id (session.Finish Stop) state = refl
+session_none command id (session.Finish Detach) state = refl
+session_none command id (session.Redirect Stdout mode) state = refl
+session_none command id (session.Redirect Stderr mode) state = refl
 
 -- what is shown is no error where the request is not refused
-shown_none : (command id : Text) (r : Request) (state : State)
+shown_none : (command id : Text) (r : LookRequest) (state : State)
     → view_refusal state.bundle (here state) state.features (program_of state) command id r ≡ None
     → fault_of (shown command id r state) ≡ None
 unfolding view_refusal
 shown_none command id r state e =
     by (view_response state.bundle (here state) state.features (program_of state) command id r) refl e where
-      by : (made : Result Response ℕ)
+      by : (made : Result Response ErrorCode)
           → view_response state.bundle (here state) state.features (program_of state) command id r ≡ made
           → code_in made ≡ None → fault_in (response_in command id made).body ≡ None
       by (Ok response) is e =
@@ -120,13 +109,14 @@ shown_none command id r state e =
       by (Err code) is e = absurd cc
 
 -- nor is the response to a write
-written_none : (command id : Text) (r : Request) (state : State)
+written_none : (command id : Text) (r : WriteRequest) (state : State)
     → write_refusal state.bundle state.features (program_of state) command id r ≡ None
     → fault_of (written command id r state) ≡ None
 unfolding write_refusal
 written_none command id r state e =
     by (write_response state.bundle state.features (program_of state) command id r) refl e where
-      by : (made : Result Response ℕ) → write_response state.bundle state.features (program_of state) command id r
+      by : (made : Result Response ErrorCode)
+          → write_response state.bundle state.features (program_of state) command id r
           ≡ made
           → code_written made ≡ None → fault_in (response_in command id made).body ≡ None
       by (Ok response) is e =
@@ -134,13 +124,13 @@ written_none command id r state e =
       by (Err code) is e = absurd cc
 
 -- a response to breakpoint commands is no error
-breakpoint_none : (bundle : Bundle) (command id : Text) (t : Table) (r : Request)
+breakpoint_none : (bundle : Bundle) (command id : Text) (t : Table) (r : BreakpointRequest)
     → fault_in (breakpoint_response bundle command id t r).body ≡ None
-breakpoint_none bundle command id t (request.BreakpointSet set) = refl
-breakpoint_none bundle command id t (request.Breakpoint Get number) = refl
-breakpoint_none bundle command id t (request.Breakpoint Remove number) = refl
-breakpoint_none bundle command id t request.BreakpointList = refl
-breakpoint_none bundle command id t other = refl
+breakpoint_none bundle command id t (asked.Set set) = refl
+breakpoint_none bundle command id t (asked.One Get number) = refl
+breakpoint_none bundle command id t (asked.One Remove number) = refl
+breakpoint_none bundle command id t (asked.Update update) = refl
+breakpoint_none bundle command id t asked.List = refl
 
 in_packet_none : (command id : Text) (r : Response) → fault_in r.body ≡ None
     → fault_in (in_packet command id r).body ≡ None
@@ -150,21 +140,17 @@ in_packet_none command id r e = by (nat_le (length (response_text r)) packet_lim
   by false = refl
 
 -- what is asked for is done
-done : (command id : Text) (name : CommandName) (line : Line) (state : State) (side : Side)
-    → side_of (request_of name line) ≡ side
-    → first_code (tests_on side state command id (request_of name line)) ≡ None
-    → fault_of (done_on side command id (request_of name line) state) ≡ None
-done command id name line state Session s e = session_none command id name line state s
-done command id name line state Breakpoints s e =
-    in_packet_none command id _ (breakpoint_none state.bundle command id state.breaks (request_of name line))
-done command id name line state Program s e =
-    shown_none command id (request_of name line) state
-    (sym (first_for (view_refusal state.bundle (here state) state.features (program_of state) command id
-    (request_of name line))) ∙ e)
-done command id name line state Writes s e =
-    written_none command id (request_of name line) state
-    (sym (first_for (write_refusal state.bundle state.features (program_of state) command id (request_of name line)))
-    ∙ e)
+done : (command id : Text) (r : Request) (state : State) → first_code (own_tests state command id r) ≡ None
+    → fault_of (performed command id r state) ≡ None
+done command id (Session r) state e = session_none command id r state
+done command id (Breakpoints r) state e =
+    in_packet_none command id _ (breakpoint_none state.bundle command id state.breaks r)
+done command id (Look r) state e =
+    shown_none command id r state
+    (sym (first_for (view_refusal state.bundle (here state) state.features (program_of state) command id r)) ∙ e)
+done command id (Write r) state e =
+    written_none command id r state
+    (sym (first_for (write_refusal state.bundle state.features (program_of state) command id r)) ∙ e)
 
 not_false : (b : Bool) → not b ≡ false → b ≡ true
 not_false true h = refl
@@ -183,7 +169,8 @@ allowed state line e =
     let admitted = passed _ _ (later_tests 1 state line) e in
     let named = passed _ _ (later_tests 2 state line) admitted.1 in
     let numbered = passed _ _ (later_tests 3 state line) named.1 in
-    let free = passed (not name) 5 (later_tests 4 state line) numbered.1 in (not_false name free.0, free.1)
+    let free = passed (not name) CommandNotAvailable (later_tests 4 state line) numbered.1 in
+    (not_false name free.0, free.1)
 
 taken : (state : State) (line : Line) (name : Option CommandName) → of_command (allows state.phase) name ≡ true
     → first_code (option_map_or (row_tests state line) name []) ≡ None
@@ -191,16 +178,18 @@ taken : (state : State) (line : Line) (name : Option CommandName) → of_command
     (option_map (λ n. record { id = id_of line; request = request_of n line }) name) state) ≡ None
 taken state line None a e = absurd cc
 taken state line (Some name) a e =
-    done line.name (id_of line) name line state (side_of (request_of name line)) refl
-    (passed (not (fits_row name line)) 3 (own_tests state line.name (id_of line) (request_of name line)) e).1
+    done line.name (id_of line) (request_of name line) state
+    (passed (not (fits_row name line)) InvalidOptions
+    (own_tests state line.name (id_of line) (request_of name line)) e).1
 
-turn_cases : (line : Option Line) (state : State) (code : Option ℕ) → refusal_of_line state line ≡ code
-    → fault_of (turn_of line code state) ≡ code
+turn_cases : (line : Option Line) (state : State) (code : Option ErrorCode) → refusal_of_line state line ≡ code
+    → fault_of (turn_of line code state) ≡ option_map number code
 turn_cases line state (Some code) e = refl
 turn_cases None state None e = absurd cc
 turn_cases (Some line) state None e = let a = allowed state line e in taken state line (name_of line.name) a.0 a.1
 
-pub refused_exactly : (state : State) (bytes : List ℕ) → fault_of (turn state bytes) ≡ refusal state bytes
+pub refused_exactly : (state : State) (bytes : List ℕ)
+    → fault_of (turn state bytes) ≡ option_map number (refusal state bytes)
 unfolding turn refusal
 refused_exactly state bytes = turn_cases (line_of bytes) state (refusal_of_line state (line_of bytes)) refl
 
@@ -212,34 +201,12 @@ at_break Break e = refl
 at_break Stopping e = absurd cc
 
 -- in a break alone
-pub writes_at_break : (name : CommandName) (line : Line) (phase : Phase) → side_of (request_of name line) ≡ Writes
-    → allows phase name ≡ true → phase ≡ Break
+pub writes_at_break : (name : CommandName) (line : Line) (phase : Phase) → allows phase name ≡ true
+    → IsTimely phase (request_of name line)
 unfolding request_of
-writes_at_break PropertySet line phase s a = at_break phase a
-writes_at_break Eval line phase s a = at_break phase a
-writes_at_break Status line phase s a = absurd cc
-writes_at_break FeatureGet line phase s a = absurd cc
-writes_at_break FeatureSet line phase s a = absurd cc
-writes_at_break Run line phase s a = absurd cc
-writes_at_break StepInto line phase s a = absurd cc
-writes_at_break StepOver line phase s a = absurd cc
-writes_at_break StepOut line phase s a = absurd cc
-writes_at_break Stop line phase s a = absurd cc
-writes_at_break Detach line phase s a = absurd cc
-writes_at_break BreakpointSet line phase s a = absurd cc
-writes_at_break BreakpointGet line phase s a = absurd cc
-writes_at_break BreakpointRemove line phase s a = absurd cc
-writes_at_break BreakpointUpdate line phase s a = absurd cc
-writes_at_break BreakpointList line phase s a = absurd cc
-writes_at_break StackDepth line phase s a = absurd cc
-writes_at_break StackGet line phase s a = absurd cc
-writes_at_break ContextNames line phase s a = absurd cc
-writes_at_break ContextGet line phase s a = absurd cc
-writes_at_break PropertyGet line phase s a = absurd cc
-writes_at_break PropertyValue line phase s a = absurd cc
-writes_at_break Source line phase s a = absurd cc
-writes_at_break Stdout line phase s a = absurd cc
-writes_at_break Stderr line phase s a = absurd cc
+writes_at_break PropertySet line phase a = at_break phase a
+writes_at_break Eval line phase a = at_break phase a
+writes_at_break other line phase a = tt
 
 -- ---- what is answered
 
@@ -258,7 +225,7 @@ none_to_program Copy = refl
 none_to_program Redirect = refl
 
 -- a refusal is sent alone
-refusal_alone : (state : State) (bytes : List ℕ) (code : ℕ)
+refusal_alone : (state : State) (bytes : List ℕ) (code : ErrorCode)
     → sent state (refused (command_in (line_of bytes)) (id_in (line_of bytes)) code state) ≡ error_alone state bytes
     code
 refusal_alone state bytes code = λ i. record {
@@ -270,7 +237,7 @@ refusal_alone state bytes code = λ i. record {
   ended = None;
 }
 
-answered_as : (state : State) (bytes : List ℕ) (code : Option ℕ) → refusal_of_line state (line_of bytes) ≡ code
+answered_as : (state : State) (bytes : List ℕ) (code : Option ErrorCode) → refusal_of_line state (line_of bytes) ≡ code
     → IsAnsweredBy code state bytes (sent state (turn_of (line_of bytes) code state))
 answered_as state bytes (Some code) e = refusal_alone state bytes code
 answered_as state bytes None e = record {

@@ -1,7 +1,7 @@
 -- Every response of a session fits a packet, where its line is short enough.
 use Rattle.std.proofs.Common.{◌≡◌, ℕ, ◌*◌, ◌≤◌, Bool, true, false, cond, List, [], ◌∷◌, codes, length, Option, Some, None, refl, sym, ap, subst, ◌∙◌, arith, eqb}
 use Rattle.std.specs.Prelude.{All, map, option_map, slice_get, unwrap_or, Result, Ok, Err, IfOk, IfSome}
-use Rattle.std.specs.List.{AllByRecursion, find}
+use Rattle.std.specs.List.{AllByRecursion}
 use Rattle.std.specs.Option.{option_map_or}
 use Rattle.std.proofs.lemmas.Fmt.{length-decimal-le}
 use Rattle.dp_tree.specs.declared.bundle.Bundle.{Bundle}
@@ -11,59 +11,32 @@ use Rattle.dp_command.specs.declared.command.Command.{Command}
 use Rattle.dp_command.specs.declared.line.Line.{Line}
 use Rattle.dp_command.specs.declared.names.CommandName.{CommandName}
 use Rattle.dp_command.specs.declared.names.CommandName.TheVariants as name
-use Rattle.dp_command.specs.declared.command.Request.{Request}
-use Rattle.dp_command.specs.declared.command.Request.TheVariants.{FeatureSet}
-use Rattle.dp_command.specs.Tests.{Test, first_code}
 use Rattle.dp_command.specs.Commands.{command_of, request_of}
 use Rattle.dp_command.specs.Letters as letter
 use Rattle.dp_command.specs.Names.{name_of}
 use Rattle.dp_command.specs.Options.{Options, given, text_given}
 use Rattle.dp_command.specs.Refusals.{id_of}
-use Rattle.dp_packet.specs.Messages.{IsKnownCode, message_of}
+use Rattle.dp_packet.specs.declared.error_codes.ErrorCode.{ErrorCode}
+use Rattle.dp_packet.specs.declared.error_codes.ErrorCode.TheVariants.{ParseError}
+use Rattle.dp_packet.specs.Messages.{message_of, number}
 use Rattle.dp_packet.specs.declared.packet.Body.{Body}
 use Rattle.dp_packet.specs.declared.packet.Response.{Response}
 use Rattle.dp_packet.specs.declared.packet.Packet.{Packet}
 use Rattle.dp_packet.specs.declared.packet.Packet.TheVariants as packet
 use Rattle.dp_packet.specs.Packets.{element_of}
 use Rattle.dp_packet.specs.Parts.{Attributes, Text}
-use Rattle.dp_packet.proofs.CodeLaws.{known-below}
+use Rattle.dp_packet.proofs.CodeLaws.{code_has_message, number_below}
 use Rattle.dp_packet.proofs.LengthLaws.{bare_response_short, fault_short, init_short, packet_short, packet_some, text_short, uri_short, written_short}
 use Rattle.dp_packet.specs.Uris.{file_uri}
 use Rattle.dp_wire.specs.Frames.{IsPacketText, command_limit}
-use Rattle.dp_breakpoint_commands.specs.Commands.{breakpoint_refusal}
-use Rattle.dp_features.specs.Features.{Features}
-use Rattle.dp_state.specs.declared.state.State.{State as ProgramState}
-use Rattle.dp_view_commands.specs.Views.{code_in, view_refusal}
-use Rattle.dp_engine.specs.Refusals.{own_tests, refusal_of_line, row_tests, session_tests, tests, tests_for, tests_on}
 use Rattle.dp_engine.specs.Responses.{init_text, main_name, fault_response, feature_response, response, response_text, set_response, success_response, status_attributes, status_response}
-use Rattle.dp_engine.specs.declared.sides.Side.{Side}
-use Rattle.dp_engine.specs.declared.sides.Side.TheVariants.{Session, Breakpoints, Program, Writes}
-use Rattle.dp_engine.specs.Session.{State, here, program_of}
-use Rattle.dp_engine.specs.Sides.{side_of}
-use Rattle.dp_breakpoint_commands.proofs.Codes.{refusal_known}
-use Rattle.dp_view_commands.proofs.Sent.{code as shows_code}
-use Rattle.dp_write_commands.specs.Responses.{code_in as code_written, write_refusal}
-use Rattle.dp_engine.proofs.WriteAnswers.{known_code}
 use Rattle.dp_engine.specs.inner.Sizes.{Fits, IsShort, IsShortRequest}
 
 -- ---- messages
 
-either : (t : Bool) (x y : List ℕ) (most : ℕ) → length x ≤ most → length y ≤ most → length (cond t x y) ≤ most
-either true x y most p q = p
-either false x y most p q = q
-
-message_short : (code : ℕ) → length (message_of code) ≤ 32
-message_short code =
-    either (eqb code 1) _ _ 32 (omega arith) (either (eqb code 2) _ _ 32 (omega arith)
-    (either (eqb code 3) _ _ 32 (omega arith) (either (eqb code 4) _ _ 32 (omega arith) (
-    either (eqb code 5) _ _ 32 (omega arith) (either (eqb code 100) _ _ 32 (omega arith)
-    (either (eqb code 200) _ _ 32 (omega arith) (either (eqb code 201) _ _ 32 (omega arith) (
-    either (eqb code 202) _ _ 32 (omega arith) (either (eqb code 203) _ _ 32 (omega arith)
-    (either (eqb code 204) _ _ 32 (omega arith) (either (eqb code 205) _ _ 32 (omega arith) (
-    either (eqb code 206) _ _ 32 (omega arith) (either (eqb code 207) _ _ 32 (omega arith)
-    (either (eqb code 300) _ _ 32 (omega arith) (either (eqb code 301) _ _ 32 (omega arith) (
-    either (eqb code 302) _ _ 32 (omega arith) (either (eqb code 900) _ _ 32 (omega arith)
-    (omega arith))))))))))))))))))
+message_short : (code : ErrorCode) → length (message_of (number code)) ≤ 32
+message_short ParseError = omega arith
+message_short other = omega arith
 
 -- ---- kinds of responses
 
@@ -121,12 +94,15 @@ module _ (command id : Text) (short_name : length command ≤ 64) (short_id : le
       → Fits (feature_response command id feature supported value)
   feature_fits_if feature supported value p q r = feature_fits feature supported value p q (value_short value r)
 
-  pub fault_fits : (code : ℕ) → IsKnownCode code → Fits (fault_response command id code)
+  pub fault_fits : (code : ErrorCode) → Fits (fault_response command id code)
   unfolding response_text
-  fault_fits code known =
-      let below = known-below code known in
-      let digits = length-decimal-le 3 code (omega arith) (omega (arith, below)) (omega (arith, below)) in
-      record { known = known; short = omega (arith, fault_short command id [] code, digits, message_short code) }
+  fault_fits code =
+      let below = number_below code in
+      let digits = length-decimal-le 3 (number code) (omega arith) (omega (arith, below)) (omega (arith, below)) in
+      record {
+        known = code_has_message code;
+        short = omega (arith, fault_short command id [] (number code), digits, message_short code);
+      }
 
 -- a response that was made fits where the one that was asked for does
 pub made_fits : {E : Type 0} (command id : Text) (attributes asked : Attributes) (what : Body)
@@ -136,85 +112,6 @@ pub made_fits : {E : Type 0} (command id : Text) (attributes asked : Attributes)
 made_fits command id attributes asked what (Ok r) is same fits =
     subst Fits (sym (is ∙ ap (λ (a : Attributes). response command id a what) same)) fits
 made_fits command id attributes asked what (Err e) is same fits = tt
-
--- ---- codes
-
-abbrev HaveCodes : List Test → Type 0
-HaveCodes all = AllByRecursion (λ (test : Test). IsKnownCode test.1) all
-
-first_is_code : (all : List Test) (code : ℕ) → HaveCodes all → first_code all ≡ Some code → IsKnownCode code
-first_is_code [] code h e = absurd cc
-first_is_code (test ∷ all) code h e = cases test.0 e (first_is_code all code h.1) where
-  cases : (b : Bool) → option_map (λ (t : Test). t.1) (cond b (Some test) (find (λ (t : Test). t.0) all)) ≡ Some code
-      → (first_code all ≡ Some code → IsKnownCode code) → IsKnownCode code
-  cases true e later = let same : test.1 ≡ code = cc in subst IsKnownCode same h.0
-  cases false e later = later e
-
-session_codes : (r : Request) → HaveCodes (session_tests r)
-session_codes (FeatureSet name value) = (refl, (refl, tt))
-session_codes r = tt
-
-for_codes : (found : Option ℕ) → ((code : ℕ) → found ≡ Some code → IsKnownCode code) → HaveCodes (tests_for found)
-for_codes None h = tt
-for_codes (Some code) h = (h code refl, tt)
-
-refused_view : (made : Result Response ℕ) (code : ℕ) → code_in made ≡ Some code → made ≡ Err code
-refused_view (Ok r) code e = absurd cc
-refused_view (Err k) code e = let same : k ≡ code = cc in ap (λ (c : ℕ). Err c) same
-
-view_codes : (bundle : Bundle) (file : ℕ) (features : Features) (program : ProgramState) (command id : Text)
-    (r : Request) (code : ℕ) → view_refusal bundle file features program command id r ≡ Some code → IsKnownCode code
-unfolding view_refusal
-view_codes bundle file features program command id r code e =
-    shows_code bundle file features program command id r code (refused_view _ code e)
-
-refused_write : (made : Result Response ℕ) (code : ℕ) → code_written made ≡ Some code → made ≡ Err code
-refused_write (Ok r) code e = absurd cc
-refused_write (Err k) code e = let same : k ≡ code = cc in ap (λ (c : ℕ). Err c) same
-
-write_codes : (bundle : Bundle) (features : Features) (program : ProgramState) (command id : Text) (r : Request)
-    (code : ℕ) → write_refusal bundle features program command id r ≡ Some code → IsKnownCode code
-unfolding write_refusal
-write_codes bundle features program command id r code e =
-    known_code bundle features program command id r code (refused_write _ code e)
-
-own_codes : (state : State) (command id : Text) (r : Request) → HaveCodes (own_tests state command id r)
-own_codes state command id r = on (side_of r) where
-  on : (side : Side) → HaveCodes (tests_on side state command id r)
-  on Session = session_codes r
-  on Breakpoints =
-      for_codes (breakpoint_refusal state.bundle (here state) state.breaks r)
-      (refusal_known state.bundle (here state) state.breaks r)
-  on Program =
-      for_codes (view_refusal state.bundle (here state) state.features (program_of state) command id r)
-      (λ code e. view_codes state.bundle (here state) state.features (program_of state) command id r code e)
-  on Writes =
-      for_codes (write_refusal state.bundle state.features (program_of state) command id r)
-      (λ code e. write_codes state.bundle state.features (program_of state) command id r code e)
-
-row_codes : (state : State) (line : Line) (name : Option CommandName)
-    → HaveCodes (option_map_or (row_tests state line) name [])
-row_codes state line None = tt
-row_codes state line (Some name) =
-    (refl, own_codes state line.name (id_of line) (request_of name line))
-
-pub refusal_is_code : (state : State) (line : Option Line) (code : ℕ) → refusal_of_line state line ≡ Some code
-    → IsKnownCode code
-refusal_is_code state None code e = let same : 1 ≡ code = cc in subst IsKnownCode same refl
-refusal_is_code state (Some line) code e =
-    first_is_code (tests state line) code (
-      refl,
-      (
-        refl,
-        (
-          refl,
-          (
-            refl,
-            row_codes state line (name_of line.name),
-          ),
-        ),
-      ),
-    ) e
 
 -- ---- requests
 

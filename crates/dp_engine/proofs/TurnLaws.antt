@@ -13,7 +13,11 @@ use Rattle.dp_breakpoint_commands.specs.Commands.{breakpoint_refusal, breakpoint
 use Rattle.dp_command.specs.declared.command.Continuation.{Continuation}
 use Rattle.dp_command.specs.declared.command.Command.{Command}
 use Rattle.dp_command.specs.declared.command.StreamMode.{StreamMode}
+use Rattle.dp_command.specs.declared.command.BreakpointRequest.{BreakpointRequest}
+use Rattle.dp_command.specs.declared.command.LookRequest.{LookRequest}
 use Rattle.dp_command.specs.declared.command.Request.{Request}
+use Rattle.dp_command.specs.declared.command.Request.TheVariants.{Breakpoints, Look, Write}
+use Rattle.dp_command.specs.declared.command.WriteRequest.{WriteRequest}
 use Rattle.dp_command.specs.declared.errors.CommandError.{CommandError}
 use Rattle.dp_command.specs.declared.errors.CommandError.TheVariants.{Code, Memory}
 use Rattle.dp_command.specs.declared.errors.Refusal.{Refusal}
@@ -24,14 +28,16 @@ use Rattle.dp_command.specs.declared.line.Line.{Line}
 use Rattle.dp_command.specs.declared.names.CommandName.{CommandName}
 use Rattle.dp_command.specs.Names.{name_of}
 use Rattle.dp_command.specs.Refusals.{admission_refusal, code_of, coded, fits_row, holds_of, id_of}
-use Rattle.dp_continuation.specs.NextStop.{stop_past, table_past}
-use Rattle.dp_continuation.specs.Stops.{stops}
-use Rattle.dp_continuation.proofs.StopMoments.{stop_is_there}
+use Rattle.dp_engine.specs.NextStop.{stop_past, table_past}
+use Rattle.dp_engine.specs.Stops.{stops}
+use Rattle.dp_engine.proofs.StopMoments.{stop_is_there}
 use Rattle.dp_features.specs.Features.{Features}
 use Rattle.dp_meaning.specs.declared.writes.NumberedWrite.{NumberedWrite}
-use Rattle.dp_meaning.specs.declared.writes.Write.{Write}
+use Rattle.dp_meaning.specs.declared.writes.Write.{Write as ProgramWrite}
 use Rattle.dp_meaning.specs.Trace.{now, outcome, program_trace}
 use Rattle.dp_meaning_laws.proofs.Whole.{end-can, now-can}
+use Rattle.dp_packet.specs.declared.error_codes.ErrorCode.{ErrorCode}
+use Rattle.dp_packet.specs.declared.error_codes.ErrorCode.TheVariants.{DuplicateArguments, InvalidOptions, UnimplementedCommand, CommandNotAvailable}
 use Rattle.dp_packet.specs.declared.packet.Response.{Response}
 use Rattle.dp_packet.specs.declared.packet.Body.TheVariants as body
 use Rattle.dp_packet.specs.declared.packet.Packet.TheVariants as packet
@@ -49,23 +55,20 @@ use Rattle.dp_write_commands.specs.Requests.{requested_write}
 use Rattle.dp_write_commands.specs.Responses.{code_in as code_written, write_refusal, write_response}
 use Rattle.dp_engine.specs.declared.session.SessionEnd.{SessionEnd}
 use Rattle.dp_engine.specs.declared.session.SessionEnd.TheVariants.{Finished}
-use Rattle.dp_engine.specs.declared.sides.Side.{Side}
-use Rattle.dp_engine.specs.declared.sides.Side.TheVariants.{Breakpoints, Program, Writes}
 use Rattle.dp_engine.specs.declared.states.Phase.{Phase}
 use Rattle.dp_engine.specs.declared.states.Phase.TheVariants as phase
 use Rattle.dp_engine.specs.declared.states.Position.{Position}
 use Rattle.dp_engine.specs.declared.states.Position.TheVariants.{Starting, Break, Stopping}
 use Rattle.dp_engine.specs.declared.replies.Turn.{Turn as Made}
-use Rattle.dp_engine.specs.Answers.{Turn, breakpoints_done, done_on, end_by_stop, gone_on, in_packet, kept_if, moved, performed, refused, response_in, shown, turn_by_command, turn_of, with_write, written}
-use Rattle.dp_engine.specs.Refusals.{of_command, own_tests, refusal_of_line, row_tests, tests, tests_on}
+use Rattle.dp_engine.specs.Answers.{Turn, breakpoints_done, end_by_stop, gone_on, in_packet, kept_if, moved, performed, refused, response_in, shown, turn_by_command, turn_of, with_write, written}
+use Rattle.dp_engine.specs.Refusals.{of_command, own_tests, refusal_of_line, row_tests, tests}
 use Rattle.dp_engine.specs.Responses.{fault_response, response as response_of, response_text}
 use Rattle.dp_engine.specs.Session.{State, here, moments_by, moments_so_far, output_by, output_so_far, program_by, program_of, steps_between, steps_left, unwritten, whole_output}
-use Rattle.dp_engine.specs.Sides.{side_of}
 use Rattle.dp_engine.specs.States.{allows}
 use Rattle.dp_engine.specs.inner.KeptWrites.{IsKeptWrite}
 use Rattle.dp_engine.specs.inner.Sizes.{Fits}
 use Rattle.dp_engine.specs.inner.Position.{IsAt, IsDeep, end_of, known, phase_of}
-use Rattle.dp_engine.specs.inner.Turns.{IsTurn, ReadsCommand, Responds, answered, answered_by}
+use Rattle.dp_engine.specs.inner.Turns.{IsTimely, IsTurn, ReadsCommand, Responds, answered, answered_by}
 use Rattle.dp_engine.proofs.RefusalLaws.{first_for, writes_at_break}
 
 -- ---- what a line asks for
@@ -75,7 +78,8 @@ abbrev first_refusal : Bool → Bool → Bool → Option Refusal
 first_refusal d u n = cond d (Some Duplicate) (cond u (Some Unimplemented) (cond n (Some NoId) None))
 
 left_tests : (d u n a : Bool) (row : List Test) → first_refusal d u n ≡ None → a ≡ true
-    → first_code ((d, 2) ∷ (u, 4) ∷ (n, 3) ∷ (not a, 5) ∷ row) ≡ first_code row
+    → first_code ((d, DuplicateArguments) ∷ (u, UnimplementedCommand) ∷ (n, InvalidOptions)
+    ∷ (not a, CommandNotAvailable) ∷ row) ≡ first_code row
 left_tests false false false true row e f = refl
 left_tests true u n a row e f = absurd cc
 left_tests false true n a row e f = absurd cc
@@ -88,12 +92,13 @@ pub admitted : (state : State) (line : Line) (name : CommandName) → admission_
     → allows state.phase name ≡ true → first_code (tests state line) ≡ first_code (row_tests state line name)
 admitted state line name h n a =
     ap (λ (o : Option CommandName). first_code (coded line Duplicate ∷ coded line Unimplemented ∷ coded line NoId
-    ∷ (not (of_command (allows state.phase) o), 5) ∷ option_map_or (row_tests state line) o [])) n
+    ∷ (not (of_command (allows state.phase) o), CommandNotAvailable) ∷ option_map_or (row_tests state line) o [])) n
     ∙ left_tests (holds_of line Duplicate) (holds_of line Unimplemented) (holds_of line NoId) (allows state.phase name)
     (row_tests state line name) h a
 
 first_admission : (d u n : Bool) (more : List Test) (refusal : Refusal) → first_refusal d u n ≡ Some refusal
-    → first_code ((d, 2) ∷ (u, 4) ∷ (n, 3) ∷ more) ≡ Some (code_of refusal)
+    → first_code ((d, DuplicateArguments) ∷ (u, UnimplementedCommand) ∷ (n, InvalidOptions) ∷ more)
+    ≡ Some (code_of refusal)
 first_admission true u n more refusal e =
     let same : Duplicate ≡ refusal = cc in ap (λ (r : Refusal). Some (code_of r)) same
 first_admission false true n more refusal e =
@@ -112,7 +117,7 @@ unadmitted state line refusal h =
 -- what is read of its row, after which only a refusal of its own is left
 pub reads_command : (state : State) (line : Line) (name : CommandName) (result : Result Command CommandError)
     → admission_refusal line ≡ None → name_of line.name ≡ Some name
-    → allows state.phase name ≡ true → (IsFalse (fits_row name line) → result ≡ Err (Code 3))
+    → allows state.phase name ≡ true → (IsFalse (fits_row name line) → result ≡ Err (Code InvalidOptions))
     → (IsTrue (fits_row name line) → MatchResult result (λ command. command ≡ command_as line name) (λ e. e ≡ Memory))
     → ReadsCommand state line result
 reads_command state line name result h n a unfit fit = by (fits_row name line) refl where
@@ -120,8 +125,9 @@ reads_command state line name result h n a unfit fit = by (fits_row name line) r
   own id = own_tests state line.name id (request_of name line)
 
   left : (fits : Bool) → fits_row name line ≡ fits
-      → refusal_of_line state (Some line) ≡ first_code ((not fits, 3) ∷ own (id_of line))
-  left fits e = admitted state line name h n a ∙ ap (λ (f : Bool). first_code ((not f, 3) ∷ own (id_of line))) e
+      → refusal_of_line state (Some line) ≡ first_code ((not fits, InvalidOptions) ∷ own (id_of line))
+  left fits e = admitted state line name h n a
+      ∙ ap (λ (f : Bool). first_code ((not f, InvalidOptions) ∷ own (id_of line))) e
 
   made : (r : Result Command CommandError) → refusal_of_line state (Some line) ≡ first_code (own (id_of line))
       → MatchResult r (λ command. command ≡ command_as line name) (λ e. e ≡ Memory)
@@ -148,14 +154,14 @@ id_is line command e = cases (name_of line.name) e where
 
 -- a command that writes is asked for in a break
 pub writes_in_break : (state : State) (line : Line) (command : Command) → ReadsCommand state line (Ok command)
-    → side_of command.request ≡ Writes → state.phase ≡ phase.Break
-writes_in_break state line command asks side = by (name_of line.name) asks.1 asks.2 where
+    → IsTimely state.phase command.request
+writes_in_break state line command asks = by (name_of line.name) asks.1 asks.2 where
   by : (name : Option CommandName) → option_map (command_as line) name ≡ Some command
-      → of_command (allows state.phase) name ≡ true → state.phase ≡ phase.Break
+      → of_command (allows state.phase) name ≡ true → IsTimely state.phase command.request
   by None e a = absurd cc
   by (Some name) e a =
-      let same : (command_as line name).request ≡ command.request = cc in writes_at_break name line state.phase
-      (ap side_of same ∙ side) a
+      let same : (command_as line name).request ≡ command.request = cc in
+      subst (IsTimely state.phase) same (writes_at_break name line state.phase a)
 
 same_turn : {E : Type 0} (state : State) (a b : Turn) (made : Result Made E) → a ≡ b → IfOk made (IsTurn a state)
     → IfOk made (IsTurn b state)
@@ -170,8 +176,8 @@ turn_accepted state next line command name id made n i e h =
     same_turn next _ _ made
     ((λ k. answered (n k) (i k) command.request state)
     ∙ by (first_code (own_tests state line.name (id_of line) command.request))
-    ∙ ap (λ (code : Option ℕ). turn_of (Some line) code state) (sym e.0)) h where
-      by : (code : Option ℕ)
+    ∙ ap (λ (code : Option ErrorCode). turn_of (Some line) code state) (sym e.0)) h where
+      by : (code : Option ErrorCode)
           → answered_by code line.name (id_of line) command.request state ≡ turn_of (Some line) code state
       by (Some code) = refl
       by None =
@@ -184,39 +190,26 @@ pub turns : {E : Type 0} (asked : Turn) (next : State) (made : Result Made E)
 turns asked next (Ok made) t n = record { responds = t; next = n }
 turns asked next (Err e) t n = tt
 
-pub turn_refused : {E : Type 0} (state : State) (line : Line) (code : ℕ) (name id : Text) (made : Result Made E)
+pub turn_refused : {E : Type 0} (state : State) (line : Line) (code : ErrorCode) (name id : Text) (made : Result Made E)
     → name ≡ line.name → id ≡ id_of line
     → refusal_of_line state (Some line) ≡ Some code
     → IfOk made (Responds (fault_response name id code) None)
     → IfOk made (IsTurn (turn_of (Some line) (refusal_of_line state (Some line)) state) state)
 turn_refused state line code name id made n i e h =
     same_turn state _ _ made ((λ k. refused (n k) (i k) code state)
-    ∙ ap (λ (c : Option ℕ). turn_of (Some line) c state) (sym e))
+    ∙ ap (λ (c : Option ErrorCode). turn_of (Some line) c state) (sym e))
     (turns (refused name id code state) state made h refl)
 
 -- ---- turns
 
-pub own_refused : {E : Type 0} (state next : State) (name id : Text) (r : Request) (code : ℕ) (made : Result Made E)
+pub own_refused : {E : Type 0} (state next : State) (name id : Text) (r : Request) (code : ErrorCode)
+    (made : Result Made E)
     → first_code (own_tests state name id r) ≡ Some code
     → next ≡ state → IfOk made (Responds (fault_response name id code) None)
     → IfOk made (IsTurn (answered name id r state) next)
 own_refused state next name id r code made e n h =
-    same_turn next _ _ made (ap (λ (c : Option ℕ). answered_by c name id r state) (sym e))
+    same_turn next _ _ made (ap (λ (c : Option ErrorCode). answered_by c name id r state) (sym e))
     (turns (refused name id code state) next made h n)
-
--- the tests of a request of breakpoints, and of one that looks at the program
-pub breakpoint_first : (state : State) (name id : Text) (r : Request) → side_of r ≡ Breakpoints
-    → first_code (own_tests state name id r) ≡ breakpoint_refusal state.bundle (here state) state.breaks r
-breakpoint_first state name id r e =
-    ap (λ (s : Side). first_code (tests_on s state name id r)) e
-    ∙ first_for (breakpoint_refusal state.bundle (here state) state.breaks r)
-
-pub view_first : (state : State) (name id : Text) (r : Request) → side_of r ≡ Program
-    → first_code (own_tests state name id r) ≡ view_refusal state.bundle (here state) state.features
-    (program_of state) name id r
-view_first state name id r e =
-    ap (λ (s : Side). first_code (tests_on s state name id r)) e
-    ∙ first_for (view_refusal state.bundle (here state) state.features (program_of state) name id r)
 
 -- a response that is the one asked for, after which the session goes on
 responds_all : {E : Type 0} (asked : Turn) (next : State) (response : Response) (made : Result Made E)
@@ -244,38 +237,38 @@ in_packet_is name id r short =
     (sym (le-leb (length (text (packet.Response r))) packet_limit short))
 
 -- a request of breakpoints that is not refused
-pub breakpoints_respond : {E : Type 0} (state next : State) (name id : Text) (r : Request) (response : Response)
-    (made : Result Made E) → side_of r ≡ Breakpoints
+pub breakpoints_respond : {E : Type 0} (state next : State) (name id : Text) (r : BreakpointRequest)
+    (response : Response) (made : Result Made E)
     → breakpoint_refusal state.bundle (here state) state.breaks r ≡ None
     → response ≡ breakpoint_response state.bundle name id state.breaks r
     → length (text (packet.Response response)) ≤ packet_limit
     → next ≡ record state { breaks = breakpoint_table state.bundle (here state) r state.breaks }
-    → IfOk made (Responds response None) → IfOk made (IsTurn (answered name id r state) next)
-breakpoints_respond state next name id r response made side e is short n t =
+    → IfOk made (Responds response None) → IfOk made (IsTurn (answered name id (Breakpoints r) state) next)
+breakpoints_respond state next name id r response made e is short n t =
     same_turn next _ _ made
-    (sym (ap (λ (c : Option ℕ). answered_by c name id r state) (breakpoint_first state name id r side ∙ e)
-    ∙ ap (λ (s : Side). done_on s name id r state) side))
+    (sym (ap (λ (c : Option ErrorCode). answered_by c name id (Breakpoints r) state) (first_for
+    (breakpoint_refusal state.bundle (here state) state.breaks r) ∙ e)))
     (responds_all (breakpoints_done name id r state) next response made t
     (in_packet_is name id response short ∙ ap (in_packet name id) is) n refl)
 
 -- done where the program stands
 pub breakpoints_turn : {E : Type 0} (state : State) (program : Program_state) (file : ℕ) (left : Table)
-    (name id : Text) (r : Request) (response : Response) (made : Result Made E)
-    → program ≡ program_of state → file ≡ file_of program → side_of r ≡ Breakpoints
+    (name id : Text) (r : BreakpointRequest) (response : Response) (made : Result Made E)
+    → program ≡ program_of state → file ≡ file_of program
     → breakpoint_refusal state.bundle file state.breaks r ≡ None
     → response ≡ breakpoint_response state.bundle name id state.breaks r
     → length (text (packet.Response response)) ≤ packet_limit → left ≡ breakpoint_table state.bundle file r state.breaks
     → IfOk made (Responds response None)
-    → IfOk made (IsTurn (answered name id r state) (record state { breaks = left }))
-breakpoints_turn state program file left name id r response made is f side e told short n t =
+    → IfOk made (IsTurn (answered name id (Breakpoints r) state) (record state { breaks = left }))
+breakpoints_turn state program file left name id r response made is f e told short n t =
     let there : here state ≡ file = sym (f ∙ ap file_of is) in
-    breakpoints_respond state (record state { breaks = left }) name id r response made side
+    breakpoints_respond state (record state { breaks = left }) name id r response made
     (ap (λ (k : ℕ). breakpoint_refusal state.bundle k state.breaks r) there ∙ e) told short
     (ap (λ (l : Table). record state { breaks = l }) (n
     ∙ ap (λ (k : ℕ). breakpoint_table state.bundle k r state.breaks) (sym there))) t
 
 -- what is seen of the program where it stands
-pub view_is : (state : State) (program : Program_state) (file : ℕ) (name id : Text) (r : Request)
+pub view_is : (state : State) (program : Program_state) (file : ℕ) (name id : Text) (r : LookRequest)
     → program ≡ program_of state → file ≡ file_of program
     → view_response state.bundle (here state) state.features (program_of state) name id r ≡ view_response state.bundle
     file state.features program name id r
@@ -284,47 +277,42 @@ view_is state program file name id r is f =
     ∙ ap (λ (n : ℕ). view_response state.bundle n state.features program name id r) (sym f)
 
 -- what is shown of the program
-pub view_responds : {E : Type 0} (state : State) (name id : Text) (r : Request) (response : Response)
+pub view_responds : {E : Type 0} (state : State) (name id : Text) (r : LookRequest) (response : Response)
     (made : Result Made E)
-    → side_of r ≡ Program
     → view_response state.bundle (here state) state.features (program_of state) name id r ≡ Ok response
-    → IfOk made (Responds response None) → IfOk made (IsTurn (answered name id r state) state)
+    → IfOk made (Responds response None) → IfOk made (IsTurn (answered name id (Look r) state) state)
 unfolding view_refusal
-view_responds state name id r response made side e t =
+view_responds state name id r response made e t =
     same_turn state _ _ made
-    (sym (ap (λ (c : Option ℕ). answered_by c name id r state) (view_first state name id r side ∙ ap code_in e)
-    ∙ ap (λ (s : Side). done_on s name id r state) side))
+    (sym (ap (λ (c : Option ErrorCode). answered_by c name id (Look r) state) (first_for
+    (view_refusal state.bundle (here state) state.features (program_of state) name id r) ∙ ap code_in e)))
     (responds_all (shown name id r state) state response made t (ap (response_in name id) (sym e)) refl refl)
 
-pub view_refused : (state : State) (name id : Text) (r : Request) (code : ℕ) → side_of r ≡ Program
+pub view_refused : (state : State) (name id : Text) (r : LookRequest) (code : ErrorCode)
     → view_response state.bundle (here state) state.features (program_of state) name id r ≡ Err code
-    → first_code (own_tests state name id r) ≡ Some code
+    → first_code (own_tests state name id (Look r)) ≡ Some code
 unfolding view_refusal
-view_refused state name id r code side e = view_first state name id r side ∙ ap code_in e
+view_refused state name id r code e =
+    first_for (view_refusal state.bundle (here state) state.features (program_of state) name id r) ∙ ap code_in e
 
 -- a write is told
-pub write_first : (state : State) (name id : Text) (r : Request) → side_of r ≡ Writes
-    → first_code (own_tests state name id r) ≡ write_refusal state.bundle state.features (program_of state) name id r
-write_first state name id r e =
-    ap (λ (s : Side). first_code (tests_on s state name id r)) e
-    ∙ first_for (write_refusal state.bundle state.features (program_of state) name id r)
-
-pub write_refused : (state : State) (name id : Text) (r : Request) (code : ℕ) → side_of r ≡ Writes
+pub write_refused : (state : State) (name id : Text) (r : WriteRequest) (code : ErrorCode)
     → write_response state.bundle state.features (program_of state) name id r ≡ Err code
-    → first_code (own_tests state name id r) ≡ Some code
+    → first_code (own_tests state name id (Write r)) ≡ Some code
 unfolding write_refusal
-write_refused state name id r code side e = write_first state name id r side ∙ ap code_written e
+write_refused state name id r code e =
+    first_for (write_refusal state.bundle state.features (program_of state) name id r) ∙ ap code_written e
 
-pub write_responds : {E : Type 0} (state next : State) (name id : Text) (r : Request) (w : Write) (response : Response)
-    (made : Result Made E) → side_of r ≡ Writes
+pub write_responds : {E : Type 0} (state next : State) (name id : Text) (r : WriteRequest) (w : ProgramWrite)
+    (response : Response) (made : Result Made E)
     → write_response state.bundle state.features (program_of state) name id r ≡ Ok response
     → requested_write (program_of state) r ≡ Ok w → next ≡ with_write w state
-    → IfOk made (Responds response None) → IfOk made (IsTurn (answered name id r state) next)
+    → IfOk made (Responds response None) → IfOk made (IsTurn (answered name id (Write r) state) next)
 unfolding write_refusal
-write_responds state next name id r w response made side e asked is t =
+write_responds state next name id r w response made e asked is t =
     same_turn next _ _ made
-    (sym (ap (λ (c : Option ℕ). answered_by c name id r state) (write_first state name id r side ∙ ap code_written e)
-    ∙ ap (λ (s : Side). done_on s name id r state) side))
+    (sym (ap (λ (c : Option ErrorCode). answered_by c name id (Write r) state) (first_for
+    (write_refusal state.bundle state.features (program_of state) name id r) ∙ ap code_written e)))
     (responds_all (written name id r state) next response made t (ap (response_in name id) (sym e))
     (is ∙ (λ i. kept_if (sym e i) (sym asked i) state)) refl)
 
@@ -473,23 +461,23 @@ module _ (bundle : Bundle) (bound : ℕ) (writes : List NumberedWrite) (moment :
   abbrev with_kept : List NumberedWrite → State
   with_kept kept = known bundle bound kept moment position features stdout breaks
 
-  pub write_turn : {E : Type 0} (after : Program_state) (kept : List NumberedWrite) (command id : Text) (r : Request)
-      (response : Response) (made : Result Made E)
-      → machine.state ≡ program_of state → side_of r ≡ Writes
+  pub write_turn : {E : Type 0} (after : Program_state) (kept : List NumberedWrite) (command id : Text)
+      (r : WriteRequest) (response : Response) (made : Result Made E)
+      → machine.state ≡ program_of state
       → IsKeptWrite bundle features machine.state after writes kept moment command id r response
-      → IfOk made (Responds response None) → IfOk made (IsTurn (answered command id r state) (with_kept kept))
-  write_turn after kept command id r response made same side is t =
-      write_responds state (with_kept kept) command id r is.write response made side
+      → IfOk made (Responds response None)
+      → IfOk made (IsTurn (answered command id (Write r) state) (with_kept kept))
+  write_turn after kept command id r response made same is t =
+      write_responds state (with_kept kept) command id r is.write response made
       (ap (λ (p : Program_state). write_response bundle features p command id r) (sym same) ∙ is.answered)
       (ap (λ (p : Program_state). requested_write p r) (sym same) ∙ is.asks)
       (ap with_kept is.list) t
 
-  pub write_is_refused : (command id : Text) (r : Request) (code : ℕ) → machine.state ≡ program_of state
-      → side_of r ≡ Writes
+  pub write_is_refused : (command id : Text) (r : WriteRequest) (code : ErrorCode) → machine.state ≡ program_of state
       → write_response bundle features machine.state command id r ≡ Err code
-      → first_code (own_tests state command id r) ≡ Some code
-  write_is_refused command id r code same side e =
-      write_refused state command id r code side (ap (λ (p : Program_state). write_response bundle features p command id
+      → first_code (own_tests state command id (Write r)) ≡ Some code
+  write_is_refused command id r code same e =
+      write_refused state command id r code (ap (λ (p : Program_state). write_response bundle features p command id
       r) (sym same) ∙ e)
 
   -- in a break no moment has come by that

@@ -6,12 +6,17 @@ use Rattle.dp_breakpoint_commands.specs.Commands.{breakpoint_response, breakpoin
 use Rattle.dp_command.specs.declared.command.Command.{Command}
 use Rattle.dp_command.specs.declared.command.Continuation.{Continuation}
 use Rattle.dp_command.specs.declared.command.Finish.TheVariants.{Stop, Detach}
+use Rattle.dp_command.specs.declared.command.BreakpointRequest.{BreakpointRequest}
+use Rattle.dp_command.specs.declared.command.LookRequest.{LookRequest}
 use Rattle.dp_command.specs.declared.command.Request.{Request}
 use Rattle.dp_command.specs.declared.command.Request.TheVariants as request
+use Rattle.dp_command.specs.declared.command.SessionRequest.{SessionRequest}
+use Rattle.dp_command.specs.declared.command.SessionRequest.TheVariants as session
 use Rattle.dp_command.specs.declared.command.Stream.{Stream}
 use Rattle.dp_command.specs.declared.command.Stream.TheVariants.{Stdout, Stderr}
 use Rattle.dp_command.specs.declared.command.StreamMode.{StreamMode}
 use Rattle.dp_command.specs.declared.command.StreamMode.TheVariants.{Disable, Copy, Redirect}
+use Rattle.dp_command.specs.declared.command.WriteRequest.{WriteRequest}
 use Rattle.dp_command.specs.declared.line.Line.{Line}
 use Rattle.dp_command.specs.Commands.{command_of}
 use Rattle.dp_command.specs.Lines.{line_of}
@@ -20,6 +25,8 @@ use Rattle.dp_command.specs.Refusals.{id_of}
 use Rattle.dp_features.specs.declared.feature.Feature.{Feature}
 use Rattle.dp_features.specs.Features.{Features, feature_named, setting_named, value_of, with_setting}
 use Rattle.dp_meaning.specs.declared.writes.Write.{Write}
+use Rattle.dp_packet.specs.declared.error_codes.ErrorCode.{ErrorCode}
+use Rattle.dp_packet.specs.declared.error_codes.ErrorCode.TheVariants.{UnimplementedCommand}
 use Rattle.dp_packet.specs.declared.packet.Body.TheVariants as body
 use Rattle.dp_packet.specs.declared.packet.Response.{Response}
 use Rattle.dp_packet.specs.Parts.{Text, flag}
@@ -30,15 +37,12 @@ use Rattle.dp_write_commands.specs.Requests.{requested_write}
 use Rattle.dp_write_commands.specs.Responses.{write_response}
 use Rattle.dp_engine.specs.declared.session.SessionEnd.{SessionEnd}
 use Rattle.dp_engine.specs.declared.session.SessionEnd.TheVariants.{Finished, Killed, Detached}
-use Rattle.dp_engine.specs.declared.sides.Side.{Side}
-use Rattle.dp_engine.specs.declared.sides.Side.TheVariants.{Session, Breakpoints, Program, Writes}
 use Rattle.dp_engine.specs.declared.states.Phase.{Phase}
 use Rattle.dp_engine.specs.declared.states.Phase.TheVariants.{Starting, Break, Stopping}
 use Rattle.dp_engine.specs.declared.states.Reason.TheVariants as reason
 use Rattle.dp_engine.specs.Refusals.{refusal_of_line}
 use Rattle.dp_engine.specs.Responses.{response, response_text, status_response, feature_response, set_response, success_response, fault_response, streams}
 use Rattle.dp_engine.specs.Session.{State, breaks_of, here, outcome_of, program_of, stop_of, written_between}
-use Rattle.dp_engine.specs.Sides.{side_of}
 use Rattle.dp_engine.specs.States.{phase_name, reason_name, reason_of}
 
 -- What a command leads to: its response, what the session knows then, and how it has ended, if it
@@ -156,19 +160,19 @@ in_packet command id r =
     else response command id [] body.Nothing
 
 -- the breakpoints are as the command makes them
-abbrev pub breakpoints_done : Text → Text → Request → State → Turn
+abbrev pub breakpoints_done : Text → Text → BreakpointRequest → State → Turn
 breakpoints_done command id r state =
     goes_on
     (in_packet command id (breakpoint_response state.bundle command id state.breaks r))
     (record state { breaks = breakpoint_table state.bundle (here state) r state.breaks })
 
 -- what is shown, or why it is not
-abbrev pub response_in : Text → Text → Result Response ℕ → Response
+abbrev pub response_in : Text → Text → Result Response ErrorCode → Response
 response_in command id (Ok shown) = shown
 response_in command id (Err code) = fault_response command id code
 
 -- nothing changes
-abbrev pub shown : Text → Text → Request → State → Turn
+abbrev pub shown : Text → Text → LookRequest → State → Turn
 shown command id r state =
     goes_on
     (response_in command id
@@ -184,12 +188,12 @@ with_write w state = record state {
 }
 
 -- the write that was asked for is kept exactly where a response was made to it
-abbrev pub kept_if : {R : Type 0} → Result R ℕ → Result Write ℕ → State → State
+abbrev pub kept_if : {R : Type 0} → Result R ErrorCode → Result Write ErrorCode → State → State
 kept_if (Ok told) (Ok w) state = with_write w state
 kept_if told asked state = state
 
 -- a write is accepted where it is answered: from here on the program's run is the one with it
-abbrev pub written : Text → Text → Request → State → Turn
+abbrev pub written : Text → Text → WriteRequest → State → Turn
 written command id r state =
     let told = write_response state.bundle state.features (program_of state) command id r in
     goes_on (response_in command id told)
@@ -198,32 +202,28 @@ written command id r state =
 -- ---- commands
 
 -- a refused command changes nothing
-abbrev pub refused : Text → Text → ℕ → State → Turn
+abbrev pub refused : Text → Text → ErrorCode → State → Turn
 refused command id code state = goes_on (fault_response command id code) state
 
--- what is answered from the session is done; it is asked for nothing else
-abbrev pub session_done : Text → Text → Request → State → Turn
-session_done command id request.Status state = goes_on (state_response command id state) state
-session_done command id (request.FeatureGet name) state =
+-- what is answered from the session is done
+abbrev pub session_done : Text → Text → SessionRequest → State → Turn
+session_done command id session.Status state = goes_on (state_response command id state) state
+session_done command id (session.FeatureGet name) state =
     goes_on (feature_answer command id name state) state
-session_done command id (request.FeatureSet name value) state =
+session_done command id (session.FeatureSet name value) state =
     feature_put command id name value state
-session_done command id (request.Continue mode) state = continued command id mode state.phase state
-session_done command id (request.Finish Stop) state = stopped command id state
-session_done command id (request.Finish Detach) state = detached command id state
-session_done command id (request.Redirect stream mode) state =
+session_done command id (session.Continue mode) state = continued command id mode state.phase state
+session_done command id (session.Finish Stop) state = stopped command id state
+session_done command id (session.Finish Detach) state = detached command id state
+session_done command id (session.Redirect stream mode) state =
     redirected command id stream mode state
-session_done command id other state = refused command id 4 state
-
-abbrev pub done_on : Side → Text → Text → Request → State → Turn
-done_on Session command id r state = session_done command id r state
-done_on Breakpoints command id r state = breakpoints_done command id r state
-done_on Program command id r state = shown command id r state
-done_on Writes command id r state = written command id r state
 
 -- what a command of this name and id asks for is done
 abbrev pub performed : Text → Text → Request → State → Turn
-performed command id r state = done_on (side_of r) command id r state
+performed command id (request.Session r) state = session_done command id r state
+performed command id (request.Breakpoints r) state = breakpoints_done command id r state
+performed command id (request.Look r) state = shown command id r state
+performed command id (request.Write r) state = written command id r state
 
 -- the name that a response repeats; empty where the bytes spell no line
 abbrev pub command_in : Option Line → Text
@@ -235,9 +235,9 @@ id_in line = option_map_or id_of line []
 
 abbrev pub turn_by_command : Text → Text → Option Command → State → Turn
 turn_by_command command id (Some c) state = performed command c.id c.request state
-turn_by_command command id None state = refused command id 4 state
+turn_by_command command id None state = refused command id UnimplementedCommand state
 
-abbrev pub turn_of : Option Line → Option ℕ → State → Turn
+abbrev pub turn_of : Option Line → Option ErrorCode → State → Turn
 turn_of line (Some code) state = refused (command_in line) (id_in line) code state
 turn_of line None state =
     turn_by_command (command_in line) (id_in line) (option_and_then command_of line) state

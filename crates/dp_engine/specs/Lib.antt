@@ -1,4 +1,5 @@
-pub mod Sides
+pub mod Stops
+pub mod NextStop
 pub mod States
 pub mod Session
 pub mod Responses

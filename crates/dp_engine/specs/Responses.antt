@@ -4,11 +4,13 @@
 use Rattle.std.specs.Prelude.{ℕ, Bool, zero, suc, List, [], ◌∷◌, ◌+◌, ◌-◌, ◌/◌, length, take, drop, map, Option, Some, None, codes, slice_get}
 use Rattle.std.specs.Option.{option_map_or}
 use Rattle.dp_tree.specs.declared.bundle.Bundle.{Bundle}
+use Rattle.dp_packet.specs.declared.error_codes.ErrorCode.{ErrorCode}
 use Rattle.dp_packet.specs.declared.packet.Body.{Body}
 use Rattle.dp_packet.specs.declared.packet.Body.TheVariants as body
 use Rattle.dp_packet.specs.declared.packet.Packet.TheVariants as packet
 use Rattle.dp_packet.specs.declared.packet.Response.{Response}
 pub use Rattle.dp_packet.specs.Packets.{response}
+use Rattle.dp_packet.specs.Messages.{number}
 use Rattle.dp_packet.specs.Parts.{Text, Attributes, flag}
 use Rattle.dp_packet.specs.Text.{text}
 use Rattle.dp_packet.specs.Uris.{file_uri}
@@ -56,10 +58,10 @@ success_response command id success =
     response command id ((codes "success", flag success) ∷ []) body.Nothing
 
 -- an error with this code
-abbrev pub fault_response : Text → Text → ℕ → Response
-fault_response command id code = response command id [] (body.Fault code)
+abbrev pub fault_response : Text → Text → ErrorCode → Response
+fault_response command id code = response command id [] (body.Fault (number code))
 
--- the code of the error that a response tells, if it tells one
+-- the number of the error that a response tells, if it tells one
 abbrev pub fault_in : Body → Option ℕ
 fault_in (body.Fault code) = Some code
 fault_in what = None

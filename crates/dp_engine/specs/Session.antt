@@ -6,8 +6,8 @@ use Rattle.dp_break.specs.Tables.{Table, empty}
 use Rattle.dp_command.specs.declared.command.Continuation.{Continuation}
 use Rattle.dp_command.specs.declared.command.StreamMode.{StreamMode}
 use Rattle.dp_command.specs.declared.command.StreamMode.TheVariants.{Disable}
-use Rattle.dp_continuation.specs.NextStop.{stop_past, table_past}
-use Rattle.dp_continuation.specs.Stops.{depth_of, stops}
+use Rattle.dp_engine.specs.NextStop.{stop_past, table_past}
+use Rattle.dp_engine.specs.Stops.{depth_of, stops}
 use Rattle.dp_features.specs.Features.{Features, defaults}
 use Rattle.dp_actions.specs.declared.signal.Signal.{Signal}
 use Rattle.dp_meaning.specs.declared.writes.NumberedWrite.{NumberedWrite}

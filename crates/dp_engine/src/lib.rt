@@ -1,20 +1,25 @@
-//! One session of the engine with an IDE, and serving it over a link.
+//! One session of the engine with an IDE, where its program goes on to, and serving it over a link.
 #![tactic(auto)]
 
+mod laws;
+mod moves;
+mod reached;
 mod refusals;
 mod replies;
 mod responses;
 mod service;
 mod session;
-mod sides;
 mod states;
+mod stops;
 mod streams;
 mod turns;
 mod writes;
 
 pub use dp_step::Steps;
 pub use dp_value::Memory;
+pub use laws::stops_are_moments;
+pub use moves::go_on_from;
+pub use reached::Reached;
 pub use service::{ServeEnd, Served, serve};
 pub use session::{Answer, Session, SessionEnd};
-pub use sides::Side;
 pub use states::{Phase, Reason};

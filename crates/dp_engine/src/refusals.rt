@@ -7,19 +7,20 @@ ghost use Rattle.dp_engine.specs.inner.Turns.{ReadsCommandIn};
 use crate::states::Phase;
 use dp_command::{Command, CommandError, CommandName, Line};
 use dp_features::Setting;
+use dp_packet::ErrorCode;
 use std::alloc::Global;
 
 /// Why a feature is not set to a value. Takes no memory.
-pub(crate) fn feature_refusal(name: &[u8], value: &[u8]) -> Option<u16>
-    ensures { result ≡ first_code ((is_other_encoding name.now value.now, 900)
-        ∷ (is_none (setting_named name.now value.now), 3) ∷ []) }
+pub(crate) fn feature_refusal(name: &[u8], value: &[u8]) -> Option<ErrorCode>
+    ensures { result ≡ first_code ((is_other_encoding name.now value.now, ErrorCode.EncodingNotSupported)
+        ∷ (is_none (setting_named name.now value.now), ErrorCode.InvalidOptions) ∷ []) }
 {
     if name == b"encoding".as_slice() && value != b"iso-8859-1".as_slice() {
-        return Some(900);
+        return Some(ErrorCode::EncodingNotSupported);
     }
     match Setting::of(name, value) {
         Some(_) => None,
-        None => Some(3),
+        None => Some(ErrorCode::InvalidOptions),
     }
 }
 
@@ -38,7 +39,7 @@ pub(crate) fn read_command(
         Err(refusal) => return Err(CommandError::Code(refusal.code())),
     };
     if !phase.allows(name) {
-        return Err(CommandError::Code(5));
+        return Err(CommandError::Code(ErrorCode::CommandNotAvailable));
     }
     Command::read(alloc, line, name)
 }

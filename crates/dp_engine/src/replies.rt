@@ -2,7 +2,6 @@
 ghost use Rattle.std.specs.Prelude.{◌≡◌, ◌≤◌, codes, length, is_some, IfOk, None, Some};
 ghost use Rattle.dp_command.specs.Names.{name_of};
 ghost use Rattle.dp_features.specs.Features.{feature_named};
-ghost use Rattle.dp_packet.specs.Messages.{IsKnownCode};
 ghost use Rattle.dp_packet.specs.Parts.{flag};
 ghost use Rattle.dp_wire.specs.Frames.{command_limit};
 ghost use Rattle.dp_engine.specs.Answers as spec;
@@ -17,7 +16,7 @@ use crate::session::SessionEnd;
 use crate::states::Position;
 use dp_command::{Addressee, CommandName};
 use dp_features::{Feature, Features};
-use dp_packet::Response;
+use dp_packet::{ErrorCode, Response};
 use dp_value::{Bytes, Memory};
 use std::alloc::Global;
 
@@ -47,8 +46,7 @@ pub(crate) fn tell(alloc: Global, response: Response) -> Result<Turn, Memory>
 }
 
 /// An error with this code.
-pub(crate) fn refuse(alloc: Global, to: &Addressee, code: u16) -> Result<Turn, Memory>
-    requires { IsKnownCode code }
+pub(crate) fn refuse(alloc: Global, to: &Addressee, code: ErrorCode) -> Result<Turn, Memory>
     ensures { IfOk result (Responds (fault_response to.now.command to.now.id code) None) }
 {
     let response = responses::fault(alloc, to, code)?;

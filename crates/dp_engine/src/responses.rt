@@ -2,13 +2,12 @@
 ghost use Rattle.std.specs.Prelude.{◌≡◌, ◌≤◌, ◌∷◌, [], codes, length, IfOk, IfSome};
 ghost use Rattle.dp_features.specs.Features.{value_limit};
 ghost use Rattle.dp_wire.specs.Frames.{IsPacketText, command_limit};
-ghost use Rattle.dp_packet.specs.Messages.{IsKnownCode};
 ghost use Rattle.dp_packet.specs.Parts.{flag as flag_text};
 ghost use Rattle.dp_engine.specs.Responses as spec;
 ghost use Rattle.dp_engine.specs.inner.Sizes.{Fits};
 
 use dp_command::Addressee;
-use dp_packet::{Body, Packet, Response, text_of};
+use dp_packet::{Body, ErrorCode, Packet, Response, text_of};
 use dp_value::{Bytes, Items, Memory};
 use std::alloc::Global;
 
@@ -144,10 +143,14 @@ pub(crate) fn flag(holds: bool) -> &'static [u8]
 }
 
 /// An error with this code.
-pub(crate) fn fault(alloc: Global, to: &Addressee, code: u16) -> Result<Response, Memory>
-    requires code { IsKnownCode code }
+pub(crate) fn fault(alloc: Global, to: &Addressee, code: ErrorCode) -> Result<Response, Memory>
     ensures value { IfOk result (λ r. r ≡ spec.fault_response to.now.command to.now.id code) }
     ensures fits { IfOk result Fits }
 {
-    response(alloc, to, Items::of(Vec::new(alloc)), Body::Fault(code))
+    response(
+        alloc,
+        to,
+        Items::of(Vec::new(alloc)),
+        Body::Fault(code.number()),
+    )
 }

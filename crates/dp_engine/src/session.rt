@@ -9,12 +9,13 @@ ghost use Rattle.dp_engine.specs.inner.Turns.{IsSent};
 ghost use Rattle.dp_command.specs.Lines.{line_of};
 ghost use Rattle.dp_tree.specs.FileNames.{AreFileNames, file_name_limit};
 
+use crate::moves::go_on_from;
+use crate::reached::Reached;
 use crate::replies::Turn;
 use crate::states::{Phase, Position};
 use crate::streams::{to_ide, to_program};
 use dp_break::Breaks;
 use dp_command::{Continuation, Line, LineError, StreamMode, read_line};
-use dp_continuation::{Reached, go_on_from};
 use dp_features::Features;
 use dp_meaning::NumberedWrite;
 use dp_packet::{Init, Packet, file_uri, text_of};

@@ -1,24 +1,23 @@
 //! What commands lead to.
 ghost use Rattle.std.specs.Prelude.{◌≡◌, ◌≢◌, ◌+◌, ◌≤◌, length, IfOk, None, Some};
-ghost use Rattle.dp_packet.specs.Messages.{IsKnownCode};
 ghost use Rattle.dp_wire.specs.Frames.{command_limit};
 ghost use Rattle.dp_engine.specs.Refusals.{refusal_of_line};
 ghost use Rattle.dp_engine.specs.Session.{moments_so_far, steps_between};
-ghost use Rattle.dp_engine.specs.Sides.{side_of};
-ghost use Rattle.dp_engine.specs.inner.Sizes.{IsShort, IsShortLine, IsShortRequest};
+ghost use Rattle.dp_engine.specs.inner.Sizes.{AreShortNames, IsShort, IsShortLine, IsShortRequest};
 
 use crate::refusals::{feature_refusal, read_command};
 use crate::replies::{Turn, detach, refuse, stop, tell, tell_feature, tell_status};
 use crate::responses;
 use crate::session::{Session, SessionEnd};
-use crate::sides::Side;
 use crate::states::{Phase, Position};
 use crate::writes::accept;
 use dp_breakpoint_commands::{BreakpointError, answer_breakpoints};
 use dp_command::{
-    Addressee, CommandError, Continuation, Finish, Line, Request, Stream, StreamMode,
+    Addressee, BreakpointRequest, CommandError, Continuation, Finish, Line, LookRequest, Request,
+    SessionRequest, Stream, StreamMode, WriteRequest,
 };
 use dp_features::Setting;
+use dp_packet::ErrorCode;
 use dp_step::Steps;
 use dp_value::Memory;
 use dp_view_commands::{ViewError, view_response};
@@ -28,9 +27,9 @@ use std::sync::ledger::Ledger;
 impl<'a> Session<'a> {
     ghost use Rattle.dp_engine.specs.Answers as spec;
     ghost use Rattle.dp_engine.specs.Responses.{fault_response};
-    ghost use Rattle.dp_engine.specs.inner.Turns.{answered, IsTurn, Responds};
+    ghost use Rattle.dp_engine.specs.inner.Turns.{answered, IsTimely, IsTurn, Responds};
 
-    /// Does what a command line asks for and makes its turn. Bytes that spell no line (`None`) are refused with 1.
+    /// Does what a command line asks for and makes its turn. Bytes that spell no line (`None`) are refused.
     pub(crate) fn turn<L: Ledger>(
         &mut self,
         alloc: Global,
@@ -43,7 +42,7 @@ impl<'a> Session<'a> {
     {
         match line {
             Some(line) => self.turn_on(alloc, &line, steps),
-            None => refuse(alloc, &Addressee::nobody(alloc), 1),
+            None => refuse(alloc, &Addressee::nobody(alloc), ErrorCode::ParseError),
         }
     }
 
@@ -76,15 +75,15 @@ impl<'a> Session<'a> {
         steps: &mut Steps<L>,
     ) -> Result<Turn, Memory>
         requires short { IsShortRequest request }
-        requires writes { side_of request ≡ Side.Writes → self.old.phase ≡ Phase.Break }
+        requires timely { IsTimely self.old.phase request }
         ensures turn { IfOk result (IsTurn (answered to.now.command to.now.id request self.old) self.new) }
         ensures steps { IfOk result (λ turn. steps.new ≡ steps.old + steps_between self.old self.new) }
     {
-        match Side::of(&request) {
-            Side::Session => self.perform_here(alloc, to, &request, steps),
-            Side::Breakpoints => self.perform_on_breakpoints(alloc, to, request),
-            Side::Program => self.show(alloc, to, &request),
-            Side::Writes => self.write(alloc, to, &request),
+        match request {
+            Request::Session(request) => self.perform_here(alloc, to, &request, steps),
+            Request::Breakpoints(request) => self.perform_on_breakpoints(alloc, to, request),
+            Request::Look(request) => self.show(alloc, to, &request),
+            Request::Write(request) => self.write(alloc, to, &request),
         }
     }
 
@@ -93,28 +92,27 @@ impl<'a> Session<'a> {
         &mut self,
         alloc: Global,
         to: &Addressee,
-        request: &Request,
+        request: &SessionRequest,
         steps: &mut Steps<L>,
     ) -> Result<Turn, Memory>
-        requires short { IsShortRequest request.now }
-        requires side { side_of request.now ≡ Side.Session }
-        ensures turn { IfOk result (IsTurn (answered to.now.command to.now.id request.now self.old) self.new) }
+        requires { AreShortNames request.now }
+        ensures turn { IfOk result (IsTurn (answered to.now.command to.now.id (Request.Session request.now) self.old)
+            self.new) }
         ensures steps { IfOk result (λ turn. steps.new ≡ steps.old + steps_between self.old self.new) }
     {
         match request {
-            Request::Status => tell_status(alloc, to, self.position),
-            Request::FeatureGet { name: feature } => {
+            SessionRequest::Status => tell_status(alloc, to, self.position),
+            SessionRequest::FeatureGet { name: feature } => {
                 tell_feature(alloc, to, &self.features, feature.as_slice())
             }
-            Request::FeatureSet {
+            SessionRequest::FeatureSet {
                 name: feature,
                 value,
             } => self.put_feature(alloc, to, feature.as_slice(), value.as_slice()),
-            Request::Continue(mode) => self.go_on(alloc, to, *mode, steps),
-            Request::Finish(Finish::Stop) => stop(alloc, to, self.position.end_by_stop()),
-            Request::Finish(Finish::Detach) => detach(alloc, to),
-            Request::Redirect { stream, mode } => self.redirect(alloc, to, *stream, *mode),
-            _ => refuse(alloc, to, 4),
+            SessionRequest::Continue(mode) => self.go_on(alloc, to, *mode, steps),
+            SessionRequest::Finish(Finish::Stop) => stop(alloc, to, self.position.end_by_stop()),
+            SessionRequest::Finish(Finish::Detach) => detach(alloc, to),
+            SessionRequest::Redirect { stream, mode } => self.redirect(alloc, to, *stream, *mode),
         }
     }
 
@@ -123,10 +121,10 @@ impl<'a> Session<'a> {
         &mut self,
         alloc: Global,
         to: &Addressee,
-        request: Request,
+        request: BreakpointRequest,
     ) -> Result<Turn, Memory>
-        requires { side_of request ≡ Side.Breakpoints }
-        ensures turn { IfOk result (IsTurn (answered to.now.command to.now.id request self.old) self.new) }
+        ensures turn { IfOk result (IsTurn (answered to.now.command to.now.id (Request.Breakpoints request) self.old)
+            self.new) }
         ensures stays { moments_so_far self.new ≡ moments_so_far self.old }
     {
         let Ok(program) = self.program() else {
@@ -142,9 +140,9 @@ impl<'a> Session<'a> {
     }
 
     /// What is shown of the program, or why it is not.
-    fn show(&self, alloc: Global, to: &Addressee, request: &Request) -> Result<Turn, Memory>
-        requires { side_of request.now ≡ Side.Program }
-        ensures { IfOk result (IsTurn (answered to.now.command to.now.id request.now self.now) self.now) }
+    fn show(&self, alloc: Global, to: &Addressee, request: &LookRequest) -> Result<Turn, Memory>
+        ensures { IfOk result (IsTurn (answered to.now.command to.now.id (Request.Look request.now) self.now)
+            self.now) }
     {
         let program = self.program()?;
         let shown = view_response(
@@ -164,10 +162,15 @@ impl<'a> Session<'a> {
     }
 
     /// What a command that writes leads to. The write is made at once.
-    fn write(&mut self, alloc: Global, to: &Addressee, request: &Request) -> Result<Turn, Memory>
-        requires side { side_of request.now ≡ Side.Writes }
-        requires is_break { self.old.phase ≡ Phase.Break }
-        ensures turn { IfOk result (IsTurn (answered to.now.command to.now.id request.now self.old) self.new) }
+    fn write(
+        &mut self,
+        alloc: Global,
+        to: &Addressee,
+        request: &WriteRequest,
+    ) -> Result<Turn, Memory>
+        requires { self.old.phase ≡ Phase.Break }
+        ensures turn { IfOk result (IsTurn (answered to.now.command to.now.id (Request.Write request.now) self.old)
+            self.new) }
         ensures stays { moments_so_far self.new ≡ moments_so_far self.old }
     {
         if self.failed {
@@ -191,8 +194,7 @@ impl<'a> Session<'a> {
     }
 
     /// An error changes nothing.
-    fn refuse(&self, alloc: Global, to: &Addressee, code: u16) -> Result<Turn, Memory>
-        requires { IsKnownCode code }
+    fn refuse(&self, alloc: Global, to: &Addressee, code: ErrorCode) -> Result<Turn, Memory>
         ensures { IfOk result (Responds (fault_response to.now.command to.now.id code) None) }
     {
         refuse(alloc, to, code)
@@ -208,7 +210,7 @@ impl<'a> Session<'a> {
     ) -> Result<Turn, Memory>
         requires feature { length feature.now ≤ command_limit }
         ensures turn { IfOk result (IsTurn (answered to.now.command to.now.id
-            (Request.FeatureSet feature.now value.now) self.old) self.new) }
+            (Request.Session (SessionRequest.FeatureSet feature.now value.now)) self.old) self.new) }
         ensures stays { moments_so_far self.new ≡ moments_so_far self.old }
     {
         if let Some(code) = feature_refusal(feature, value) {

@@ -1,10 +1,9 @@
 //! Writes that commands ask for.
 ghost use Rattle.std.specs.Prelude.{◌≡◌, ◌∷◌, ◌++◌, ◌<◌, [], vec_capacity, vec_len, IfOk};
 ghost use Rattle.dp_engine.specs.inner.KeptWrites.{Accepts};
-ghost use Rattle.dp_view.specs.Answers.{HasKnownCode};
 ghost use Rattle.dp_write_commands.specs.Results.{IsSent};
 
-use dp_command::{Addressee, Request};
+use dp_command::{Addressee, WriteRequest};
 use dp_features::Features;
 use dp_meaning::NumberedWrite;
 use dp_packet::Response;
@@ -36,12 +35,11 @@ pub(crate) fn accept(
     writes: &mut Vec<NumberedWrite>,
     moment: u64,
     to: &Addressee,
-    request: &Request,
+    request: &WriteRequest,
 ) -> Result<Response, ViewError>
     ensures answer { Accepts bundle.now features.now program.old program.new writes.old.items writes.new.items moment
         to.now.command to.now.id request.now result }
     ensures is_sent { IfOk result IsSent }
-    ensures known { HasKnownCode result }
 {
     if writes.reserve(1).is_err() {
         return Err(ViewError::Memory);

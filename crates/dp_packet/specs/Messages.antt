@@ -1,28 +1,52 @@
--- The messages of errors (the codes of DBGp 1.0, "Errors"; the words are our own).
-use Rattle.std.specs.Prelude.{◌≡◌, ℕ, Bool, true, false, ◌==◌, if◌then◌else◌, [], ◌∷◌, codes}
+-- The codes of errors (DBGp 1.0, "Error Codes"), their numbers and their messages. The words of the
+-- messages are our own.
+use Rattle.std.specs.Prelude.{ℕ, Bool, true, false, ◌==◌, if◌then◌else◌, [], ◌∷◌, codes}
+use Rattle.dp_packet.specs.declared.error_codes.ErrorCode.{ErrorCode}
+use Rattle.dp_packet.specs.declared.error_codes.ErrorCode.TheVariants.{ParseError, DuplicateArguments, InvalidOptions, UnimplementedCommand, CommandNotAvailable, CannotOpenFile, BreakpointNotSet, TypeNotSupported, InvalidBreakpointLine, NoCodeOnLine, InvalidBreakpointState, NoSuchBreakpoint, ErrorEvaluatingCode, InvalidExpression, CannotGetProperty, StackDepthInvalid, ContextInvalid, EncodingNotSupported}
 use Rattle.dp_packet.specs.Parts.{Text}
 
--- the message of a code; empty where the code has none
+-- the number of a code in an error response
+abbrev pub number : ErrorCode → ℕ
+number ParseError = 1
+number DuplicateArguments = 2
+number InvalidOptions = 3
+number UnimplementedCommand = 4
+number CommandNotAvailable = 5
+number CannotOpenFile = 100
+number BreakpointNotSet = 200
+number TypeNotSupported = 201
+number InvalidBreakpointLine = 202
+number NoCodeOnLine = 203
+number InvalidBreakpointState = 204
+number NoSuchBreakpoint = 205
+number ErrorEvaluatingCode = 206
+number InvalidExpression = 207
+number CannotGetProperty = 300
+number StackDepthInvalid = 301
+number ContextInvalid = 302
+number EncodingNotSupported = 900
+
+-- the message of the code with this number; empty where no code has it
 abbrev pub message_of : ℕ → Text
-message_of code =
-    if code == 1 then codes "parse error"
-    else if code == 2 then codes "duplicate arguments"
-    else if code == 3 then codes "invalid options"
-    else if code == 4 then codes "unimplemented command"
-    else if code == 5 then codes "command not available"
-    else if code == 100 then codes "cannot open file"
-    else if code == 200 then codes "breakpoint could not be set"
-    else if code == 201 then codes "type not supported"
-    else if code == 202 then codes "invalid breakpoint line"
-    else if code == 203 then codes "no code on line"
-    else if code == 204 then codes "invalid breakpoint state"
-    else if code == 205 then codes "no such breakpoint"
-    else if code == 206 then codes "error evaluating code"
-    else if code == 207 then codes "invalid expression"
-    else if code == 300 then codes "cannot get property"
-    else if code == 301 then codes "stack depth invalid"
-    else if code == 302 then codes "context invalid"
-    else if code == 900 then codes "encoding not supported"
+message_of n =
+    if n == 1 then codes "parse error"
+    else if n == 2 then codes "duplicate arguments"
+    else if n == 3 then codes "invalid options"
+    else if n == 4 then codes "unimplemented command"
+    else if n == 5 then codes "command not available"
+    else if n == 100 then codes "cannot open file"
+    else if n == 200 then codes "breakpoint could not be set"
+    else if n == 201 then codes "type not supported"
+    else if n == 202 then codes "invalid breakpoint line"
+    else if n == 203 then codes "no code on line"
+    else if n == 204 then codes "invalid breakpoint state"
+    else if n == 205 then codes "no such breakpoint"
+    else if n == 206 then codes "error evaluating code"
+    else if n == 207 then codes "invalid expression"
+    else if n == 300 then codes "cannot get property"
+    else if n == 301 then codes "stack depth invalid"
+    else if n == 302 then codes "context invalid"
+    else if n == 900 then codes "encoding not supported"
     else []
 
 -- why a proxy refused; empty where the number is none of its reasons
@@ -38,7 +62,3 @@ reason_of id =
 abbrev pub is_some_text : Text → Bool
 is_some_text [] = false
 is_some_text (b ∷ bytes) = true
-
--- the code has a message
-abbrev pub IsKnownCode : ℕ → Type 0
-IsKnownCode code = is_some_text (message_of code) ≡ true

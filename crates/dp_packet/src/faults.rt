@@ -1,39 +1,13 @@
-//! Errors, their messages and their elements.
+//! The elements of errors, and why a proxy refuses.
 ghost use Rattle.std.specs.Prelude.{◌≡◌, IfOk};
 ghost use Rattle.dp_packet.specs.Messages as spec;
 ghost use Rattle.dp_packet.specs.Packets as packets;
 
 use crate::Memory;
+use crate::error_codes::message;
 use crate::parts::{alone, child, put_number, text_nodes};
 use dp_markup::Node;
 use std::alloc::Global;
-
-/// The message of an error, empty where the code has none.
-pub fn message(code: u16) -> &'static [u8]
-    ensures { result.now ≡ spec.message_of code }
-{
-    match code {
-        1 => b"parse error",
-        2 => b"duplicate arguments",
-        3 => b"invalid options",
-        4 => b"unimplemented command",
-        5 => b"command not available",
-        100 => b"cannot open file",
-        200 => b"breakpoint could not be set",
-        201 => b"type not supported",
-        202 => b"invalid breakpoint line",
-        203 => b"no code on line",
-        204 => b"invalid breakpoint state",
-        205 => b"no such breakpoint",
-        206 => b"error evaluating code",
-        207 => b"invalid expression",
-        300 => b"cannot get property",
-        301 => b"stack depth invalid",
-        302 => b"context invalid",
-        900 => b"encoding not supported",
-        _ => b"",
-    }
-}
 
 /// Why a proxy refused, empty where the number is none of its reasons.
 pub fn reason(id: u8) -> &'static [u8]

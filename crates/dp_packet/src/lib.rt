@@ -3,6 +3,7 @@
 
 mod break_sizes;
 mod breakpoints;
+mod error_codes;
 mod faults;
 mod packet;
 mod parts;
@@ -17,7 +18,8 @@ mod uris;
 
 pub use break_sizes::break_size;
 pub use dp_value::Memory;
-pub use faults::{message, reason};
+pub use error_codes::{ErrorCode, message};
+pub use faults::reason;
 pub use packet::{
     Body, BreakKind, BreakLine, HitRule, Init, Notify, Packet, ProxyReply, Response, StackLine,
 };

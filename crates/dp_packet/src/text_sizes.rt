@@ -7,7 +7,8 @@ ghost use Rattle.dp_packet.specs.Text.{text};
 ghost use Rattle.dp_packet.specs.inner.Sizes.{attributes_size};
 
 use crate::break_sizes::{break_size, breaks_size};
-use crate::faults::{message, reason};
+use crate::error_codes::message;
+use crate::faults::reason;
 use crate::packet::{Body, BreakLine, Init, Notify, Packet, ProxyReply, Response, StackLine};
 use crate::property_sizes::{base64_size, properties_size};
 use crate::sizes::{element_size, escaped_size, number_size, size_of};

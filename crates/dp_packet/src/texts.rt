@@ -5,7 +5,8 @@ ghost use Rattle.dp_packet.specs.Text.{text};
 
 use crate::Memory;
 use crate::breakpoints::breakpoint_of;
-use crate::faults::{message, reason, refusal_node};
+use crate::error_codes::message;
+use crate::faults::{reason, refusal_node};
 use crate::packet::{Body, BreakLine, Init, Notify, Packet, ProxyReply};
 use crate::parts::{alone, element, put_attribute, put_namespace, put_number};
 use crate::properties::base64_nodes;

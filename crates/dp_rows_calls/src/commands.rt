@@ -4,6 +4,7 @@ use crate::requests::put_request;
 use dp_command::{
     Command, CommandError, CommandName, Line, LineError, id_of, read_line, write_line,
 };
+use dp_packet::ErrorCode;
 use dp_rows::{Memory, put_bytes};
 use std::alloc::Global;
 
@@ -41,10 +42,11 @@ fn put_refusal(text: &mut String, line: &Line) -> Result<(), Memory> {
 }
 
 /// The first refusal of a line, the code and the id of the reply.
-fn refused(alloc: Global, line: &Line, code: u16) -> Result<String, Memory> {
+fn refused(alloc: Global, line: &Line, code: ErrorCode) -> Result<String, Memory> {
     let mut text = String::new(alloc);
     put_refusal(&mut text, line)?;
-    write!(text, ", code {code}, id ")?;
+    let number = code.number();
+    write!(text, ", code {number}, id ")?;
     put_bytes(&mut text, id_of(line))?;
     Ok(text)
 }

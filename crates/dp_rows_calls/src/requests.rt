@@ -1,7 +1,8 @@
 //! What commands ask for, in words.
 
 use dp_command::{
-    BreakpointSet, BreakpointUpdate, PropertyPlace, PropertySet, Request, SourceRange,
+    BreakpointRequest, BreakpointSet, BreakpointUpdate, LookRequest, PropertyPlace, PropertySet,
+    Request, SessionRequest, SourceRange, WriteRequest,
 };
 use dp_rows::{Memory, put_bytes};
 use dp_value::Bytes;
@@ -80,74 +81,91 @@ fn put_source(text: &mut String, range: &SourceRange) -> Result<(), Memory> {
     put_number(text, "last", range.last)
 }
 
-/// Puts a command that asks for something of the stack, of properties or of the source.
-fn put_view(text: &mut String, request: &Request) -> Result<(), Memory> {
+/// Puts what is asked of the session itself.
+fn put_session(text: &mut String, request: &SessionRequest) -> Result<(), Memory> {
     match request {
-        Request::StackGet { level } => {
-            text.push_str("stack_get")?;
-            put_number(text, "level", *level)
+        SessionRequest::Status => text.push_str("status")?,
+        SessionRequest::FeatureGet { name } => {
+            text.push_str("feature_get")?;
+            put_part(text, "name", name.as_slice())?;
         }
-        Request::ContextGet { level, context } => {
+        SessionRequest::FeatureSet { name, value } => {
+            text.push_str("feature_set")?;
+            put_part(text, "name", name.as_slice())?;
+            put_part(text, "value", value.as_slice())?;
+        }
+        SessionRequest::Continue(how) => write!(text, "{how:?}")?,
+        SessionRequest::Finish(how) => write!(text, "{how:?}")?,
+        SessionRequest::Redirect { stream, mode } => write!(text, "{stream:?} {mode:?}")?,
+    }
+    Ok(())
+}
+
+/// Puts what is asked of the breakpoints.
+fn put_breakpoints(text: &mut String, request: &BreakpointRequest) -> Result<(), Memory> {
+    match request {
+        BreakpointRequest::Set(set) => put_set(text, set),
+        BreakpointRequest::One { action, id } => {
+            write!(text, "{action:?} {id}")?;
+            Ok(())
+        }
+        BreakpointRequest::Update(update) => put_update(text, update),
+        BreakpointRequest::List => {
+            text.push_str("breakpoint_list")?;
+            Ok(())
+        }
+    }
+}
+
+/// Puts a look at the stack, at properties or at the source.
+fn put_look(text: &mut String, request: &LookRequest) -> Result<(), Memory> {
+    match request {
+        LookRequest::StackDepth => text.push_str("stack_depth")?,
+        LookRequest::StackGet { level } => {
+            text.push_str("stack_get")?;
+            put_number(text, "level", *level)?;
+        }
+        LookRequest::ContextNames => text.push_str("context_names")?,
+        LookRequest::ContextGet { level, context } => {
             text.push_str("context_get")?;
             put_number(text, "level", Some(*level))?;
-            put_number(text, "context", Some(*context))
+            put_number(text, "context", Some(*context))?;
         }
-        Request::PropertyGet {
+        LookRequest::PropertyGet {
             place,
             page,
             max_data,
         } => {
             put_place(text, "property_get", place)?;
             put_number(text, "page", Some(*page))?;
-            put_number(text, "max_data", *max_data)
+            put_number(text, "max_data", *max_data)?;
         }
-        Request::PropertyValue { place, max_data } => {
+        LookRequest::PropertyValue { place, max_data } => {
             put_place(text, "property_value", place)?;
-            put_number(text, "max_data", *max_data)
+            put_number(text, "max_data", *max_data)?;
         }
-        Request::PropertySet(set) => put_value(text, set),
-        Request::Source(range) => put_source(text, range),
-        Request::Eval { expression } => {
+        LookRequest::Source(range) => put_source(text, range)?,
+    }
+    Ok(())
+}
+
+/// Puts a write.
+fn put_write(text: &mut String, request: &WriteRequest) -> Result<(), Memory> {
+    match request {
+        WriteRequest::PropertySet(set) => put_value(text, set),
+        WriteRequest::Eval { expression } => {
             text.push_str("eval")?;
             put_part(text, "expression", expression.as_slice())
         }
-        other => put_plain(text, other),
     }
-}
-
-/// Puts a command without parts of its own.
-fn put_plain(text: &mut String, request: &Request) -> Result<(), Memory> {
-    match request {
-        Request::Status => text.push_str("status")?,
-        Request::Continue(how) => write!(text, "{how:?}")?,
-        Request::Finish(how) => write!(text, "{how:?}")?,
-        Request::BreakpointList => text.push_str("breakpoint_list")?,
-        Request::StackDepth => text.push_str("stack_depth")?,
-        Request::ContextNames => text.push_str("context_names")?,
-        Request::Redirect { stream, mode } => write!(text, "{stream:?} {mode:?}")?,
-        _ => text.push_str("another command")?,
-    }
-    Ok(())
 }
 
 /// Puts what a command asks for.
 pub(crate) fn put_request(text: &mut String, request: &Request) -> Result<(), Memory> {
     match request {
-        Request::FeatureGet { name } => {
-            text.push_str("feature_get")?;
-            put_part(text, "name", name.as_slice())
-        }
-        Request::FeatureSet { name, value } => {
-            text.push_str("feature_set")?;
-            put_part(text, "name", name.as_slice())?;
-            put_part(text, "value", value.as_slice())
-        }
-        Request::BreakpointSet(set) => put_set(text, set),
-        Request::Breakpoint { action, id } => {
-            write!(text, "{action:?} {id}")?;
-            Ok(())
-        }
-        Request::BreakpointUpdate(update) => put_update(text, update),
-        other => put_view(text, other),
+        Request::Session(request) => put_session(text, request),
+        Request::Breakpoints(request) => put_breakpoints(text, request),
+        Request::Look(request) => put_look(text, request),
+        Request::Write(request) => put_write(text, request),
     }
 }

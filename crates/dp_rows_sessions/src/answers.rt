@@ -3,8 +3,11 @@
 use crate::breakpoints::{remove, set, shown, shown_all, update};
 use crate::session::Session;
 use crate::views::{context_body, evaluated_body, names_body, page_body, stack_body, value_body};
-use dp_command::{BreakpointAction, Command, Line, Request, read_line};
-use dp_packet::{Body, Packet, Response, has_message, text_of};
+use dp_command::{
+    BreakpointAction, BreakpointRequest, Command, Line, LookRequest, Request, WriteRequest,
+    read_line,
+};
+use dp_packet::{Body, ErrorCode, Packet, Response, has_message, text_of};
 use dp_rows::Memory;
 use dp_value::{Bytes, Items};
 use std::alloc::Global;
@@ -12,7 +15,7 @@ use std::alloc::Global;
 /// What a command gives: attributes and a body, or the code of an error; nothing where it is no command here.
 pub(crate) enum Answer {
     Given(Items<(Bytes, Bytes)>, Body),
-    Code(u16),
+    Code(ErrorCode),
     Nothing,
 }
 
@@ -36,42 +39,47 @@ pub(crate) fn attribute(
 /// What a request gives.
 fn answer_to(session: &mut Session, request: Request) -> Result<Answer, Memory> {
     match request {
-        Request::BreakpointSet(asked) => set(session, asked),
-        other => answer_of(session, &other),
+        Request::Session(_) => Ok(Answer::Nothing),
+        Request::Breakpoints(BreakpointRequest::Set(asked)) => set(session, asked),
+        Request::Breakpoints(other) => answer_of(session, &other),
+        Request::Look(request) => view_of(session, &request),
+        Request::Write(WriteRequest::PropertySet(_)) => Ok(Answer::Nothing),
+        Request::Write(WriteRequest::Eval { expression }) => {
+            evaluated_body(session, expression.as_slice())
+        }
     }
 }
 
-/// What a request about breakpoints that are set gives, or about what is shown.
-fn answer_of(session: &mut Session, request: &Request) -> Result<Answer, Memory> {
+/// What a request about breakpoints that are set gives.
+fn answer_of(session: &mut Session, request: &BreakpointRequest) -> Result<Answer, Memory> {
     match request {
-        Request::Breakpoint {
+        BreakpointRequest::Set(_) => Ok(Answer::Nothing),
+        BreakpointRequest::One {
             action: BreakpointAction::Get,
             id,
         } => shown(session, *id),
-        Request::Breakpoint {
+        BreakpointRequest::One {
             action: BreakpointAction::Remove,
             id,
         } => Ok(remove(session, *id)),
-        Request::BreakpointUpdate(asked) => Ok(update(session, asked)),
-        Request::BreakpointList => shown_all(session),
-        other => view_of(session, other),
+        BreakpointRequest::Update(asked) => Ok(update(session, asked)),
+        BreakpointRequest::List => shown_all(session),
     }
 }
 
 /// What a request about what is shown gives.
-fn view_of(session: &Session, request: &Request) -> Result<Answer, Memory> {
+fn view_of(session: &Session, request: &LookRequest) -> Result<Answer, Memory> {
     match request {
-        Request::StackGet { level } => stack_body(session, *level),
-        Request::ContextGet { level, context } => context_body(session, *level, *context),
-        Request::ContextNames => names_body(session),
-        Request::PropertyGet {
+        LookRequest::StackGet { level } => stack_body(session, *level),
+        LookRequest::ContextGet { level, context } => context_body(session, *level, *context),
+        LookRequest::ContextNames => names_body(session),
+        LookRequest::PropertyGet {
             place,
             page,
             max_data,
         } => page_body(session, place, *page, *max_data),
-        Request::PropertyValue { place, max_data } => value_body(session, place, *max_data),
-        Request::Eval { expression } => evaluated_body(session, expression.as_slice()),
-        _ => Ok(Answer::Nothing),
+        LookRequest::PropertyValue { place, max_data } => value_body(session, place, *max_data),
+        LookRequest::StackDepth | LookRequest::Source(_) => Ok(Answer::Nothing),
     }
 }
 
@@ -94,7 +102,12 @@ fn response(
 fn answered(alloc: Global, name: Bytes, id: Bytes, answer: Answer) -> Option<Packet> {
     match answer {
         Answer::Given(attributes, body) => response(name, id, attributes, body),
-        Answer::Code(code) => response(name, id, Items::of(Vec::new(alloc)), Body::Fault(code)),
+        Answer::Code(code) => response(
+            name,
+            id,
+            Items::of(Vec::new(alloc)),
+            Body::Fault(code.number()),
+        ),
         Answer::Nothing => None,
     }
 }

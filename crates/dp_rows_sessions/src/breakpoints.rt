@@ -7,7 +7,7 @@ use dp_breakpoint_commands::{
     BreakpointError, breakpoint_change, breakpoint_line, breakpoint_request,
 };
 use dp_command::{BreakpointSet, BreakpointUpdate};
-use dp_packet::Body;
+use dp_packet::{Body, ErrorCode};
 use dp_rows::Memory;
 use dp_value::{Bytes, Items};
 use std::alloc::Global;
@@ -75,7 +75,7 @@ pub(crate) fn shown(session: &Session, id: u32) -> Result<Answer, Memory> {
             let lines = Items::of(vec![in alloc; line]?);
             Ok(bare(alloc, Body::Breakpoints(lines)))
         }
-        None => Ok(Answer::Code(205)),
+        None => Ok(Answer::Code(ErrorCode::NoSuchBreakpoint)),
     }
 }
 
@@ -94,7 +94,7 @@ pub(crate) fn remove(session: &mut Session, id: u32) -> Answer {
     if session.breaks.remove(id) {
         bare(session.alloc, Body::Nothing)
     } else {
-        Answer::Code(205)
+        Answer::Code(ErrorCode::NoSuchBreakpoint)
     }
 }
 
@@ -102,7 +102,7 @@ pub(crate) fn remove(session: &mut Session, id: u32) -> Answer {
 pub(crate) fn update(session: &mut Session, asked: &BreakpointUpdate) -> Answer {
     let kind = match session.breaks.get(asked.id) {
         Some(held) => held.kind,
-        None => return Answer::Code(205),
+        None => return Answer::Code(ErrorCode::NoSuchBreakpoint),
     };
     let change = match breakpoint_change(kind, asked) {
         Ok(change) => change,

@@ -4,7 +4,7 @@ use crate::answers::{Answer, attribute, bare};
 use crate::session::Session;
 use crate::writes::value_of;
 use dp_command::PropertyPlace;
-use dp_packet::{Body, Property};
+use dp_packet::{Body, ErrorCode, Property};
 use dp_rows::Memory;
 use dp_value::Items;
 use dp_view::{
@@ -23,7 +23,7 @@ fn refused(error: ViewError) -> Result<Answer, Memory> {
 /// The stack, or one level of it.
 pub(crate) fn stack_body(session: &Session, level: Option<u32>) -> Result<Answer, Memory> {
     let Some(state) = &session.state else {
-        return Ok(Answer::Code(5));
+        return Ok(Answer::Code(ErrorCode::CommandNotAvailable));
     };
     match stack(session.alloc, &session.bundle, state, level) {
         Ok(lines) => Ok(bare(session.alloc, Body::Stacks(lines))),
@@ -34,7 +34,7 @@ pub(crate) fn stack_body(session: &Session, level: Option<u32>) -> Result<Answer
 /// The variables of a context.
 pub(crate) fn context_body(session: &Session, level: u32, id: u32) -> Result<Answer, Memory> {
     let Some(state) = &session.state else {
-        return Ok(Answer::Code(5));
+        return Ok(Answer::Code(ErrorCode::CommandNotAvailable));
     };
     let alloc = session.alloc;
     match context(alloc, &session.bundle, state, level, id, &session.paging) {
@@ -73,7 +73,7 @@ pub(crate) fn property_body(
     paging: &Paging,
 ) -> Result<Answer, Memory> {
     let Some(state) = &session.state else {
-        return Ok(Answer::Code(5));
+        return Ok(Answer::Code(ErrorCode::CommandNotAvailable));
     };
     let alloc = session.alloc;
     let name = place.name.as_slice();
@@ -100,7 +100,7 @@ pub(crate) fn value_body(
     max_data: Option<u32>,
 ) -> Result<Answer, Memory> {
     let Some(state) = &session.state else {
-        return Ok(Answer::Code(5));
+        return Ok(Answer::Code(ErrorCode::CommandNotAvailable));
     };
     let name = place.name.as_slice();
     let most = max_data.map(u64::from);
@@ -113,7 +113,7 @@ pub(crate) fn value_body(
 /// The value of an expression that changes nothing, as an evaluation shows it.
 pub(crate) fn evaluated_body(session: &Session, text: &[u8]) -> Result<Answer, Memory> {
     let Some(state) = &session.state else {
-        return Ok(Answer::Code(5));
+        return Ok(Answer::Code(ErrorCode::CommandNotAvailable));
     };
     let alloc = session.alloc;
     match value_of(alloc, &session.bundle, state, text)? {
@@ -122,6 +122,6 @@ pub(crate) fn evaluated_body(session: &Session, text: &[u8]) -> Result<Answer, M
             let success = attribute(alloc, b"success", b"1")?;
             Ok(Answer::Given(Items::of(vec![in alloc; success]?), body))
         }
-        None => Ok(Answer::Code(206)),
+        None => Ok(Answer::Code(ErrorCode::ErrorEvaluatingCode)),
     }
 }

@@ -8,7 +8,9 @@ use Rattle.dp_tree.specs.declared.bundle.Bundle.{Bundle}
 use Rattle.dp_command.specs.declared.command.Continuation.{Continuation}
 use Rattle.dp_command.specs.declared.command.Finish.TheVariants.{Stop, Detach}
 use Rattle.dp_command.specs.declared.command.Request.{Request}
-use Rattle.dp_command.specs.declared.command.Request.TheVariants as request
+use Rattle.dp_command.specs.declared.command.Request.TheVariants.{Session, Breakpoints, Look, Write}
+use Rattle.dp_command.specs.declared.command.SessionRequest.{SessionRequest}
+use Rattle.dp_command.specs.declared.command.SessionRequest.TheVariants as request
 use Rattle.dp_command.specs.declared.command.Stream.TheVariants.{Stdout, Stderr}
 use Rattle.dp_command.specs.declared.command.StreamMode.{StreamMode}
 use Rattle.dp_command.specs.declared.command.StreamMode.TheVariants.{Disable, Copy, Redirect}
@@ -20,10 +22,11 @@ use Rattle.dp_command.specs.Names.{name_of}
 use Rattle.dp_command.specs.Refusals.{id_of}
 use Rattle.dp_features.specs.Features.{Features}
 use Rattle.dp_meaning.specs.declared.writes.NumberedWrite.{NumberedWrite}
-use Rattle.dp_meaning.specs.declared.writes.Write.{Write}
+use Rattle.dp_meaning.specs.declared.writes.Write.{Write as ProgramWrite}
 use Rattle.dp_meaning.specs.Trace.{now, outcome, output, program_trace}
 use Rattle.dp_actions.specs.Setting.{Setting}
 use Rattle.dp_meaning.specs.Writes.{evaluation_setting, one_write, written, written_by, writes_of}
+use Rattle.dp_packet.specs.declared.error_codes.ErrorCode.{ErrorCode}
 use Rattle.dp_packet.specs.declared.packet.Response.{Response}
 use Rattle.dp_packet.specs.Parts.{Text}
 use Rattle.dp_conversation.specs.Folds.{Reply, unless_ended, followed, replies}
@@ -38,21 +41,19 @@ use Rattle.dp_engine.specs.declared.session.SessionEnd.{SessionEnd}
 use Rattle.dp_engine.specs.declared.session.SessionEnd.TheVariants.{Finished, Killed, Detached}
 use Rattle.dp_engine.specs.declared.states.Phase.{Phase}
 use Rattle.dp_engine.specs.declared.states.Phase.TheVariants.{Starting, Break, Stopping}
-use Rattle.dp_engine.specs.Answers.{answer, at_end, at_stop, continued, done_on, gone_on, kept_if, moved, session_done, to_program, turn, turn_by_command, turn_of, with_write}
+use Rattle.dp_engine.specs.Answers.{answer, at_end, at_stop, continued, gone_on, kept_if, moved, performed, session_done, to_program, turn, turn_by_command, turn_of, with_write}
 use Rattle.dp_engine.specs.Refusals.{of_command, refusal_of_line}
 use Rattle.dp_engine.specs.Served.{answers, ending, ending_after, own, rest_after, writes}
 use Rattle.dp_session_laws.specs.AllOutput.{Begins, IsRunWith, NeverRedirects, UnlessEnded, all_output, writing}
-use Rattle.dp_engine.specs.declared.sides.Side.{Side}
-use Rattle.dp_engine.specs.declared.sides.Side.TheVariants.{Session, Breakpoints, Program, Writes}
 use Rattle.dp_engine.specs.Session.{State, breaks_of, depth_at, opening, outcome_of, output_by, output_so_far, program_by, program_of, stop_of, trace_of, unwritten, whole_output, written_between}
 use Rattle.dp_session_laws.specs.Shown.{IsInRun, IsInRunAt}
-use Rattle.dp_engine.specs.Sides.{side_of}
 use Rattle.dp_engine.specs.States.{allows}
-use Rattle.dp_continuation.specs.Stops.{stops}
+use Rattle.dp_engine.specs.inner.Turns.{IsTimely}
+use Rattle.dp_engine.specs.Stops.{stops}
 use Rattle.dp_engine.proofs.NewWrites.{own_number, same_pair}
 use Rattle.dp_session_laws.proofs.Outputs.{begins_all, begins_same, stays_written, with_writes, write_adds, writes_add}
 use Rattle.dp_engine.proofs.RefusalLaws.{allowed, writes_at_break}
-use Rattle.dp_continuation.proofs.StopMoments.{stop_is_there}
+use Rattle.dp_engine.proofs.StopMoments.{stop_is_there}
 
 -- ---- what a turn does to a session: nothing, it sets features or breakpoints, or the program goes on
 
@@ -61,7 +62,7 @@ pub data Moves (state : State) : State → Type 0 where
   sets : (features : Features) → Moves state (record state { features = features })
   directs : (mode : StreamMode) → Moves state (record state { stdout = mode })
   holds : (breaks : Table) → Moves state (record state { breaks = breaks })
-  writes_on : (w : Write) → state.phase ≡ Break → Moves state (with_write w state)
+  writes_on : (w : ProgramWrite) → state.phase ≡ Break → Moves state (with_write w state)
   goes : (mode : Continuation) → state.phase ≢ Stopping → Moves state (gone_on mode state)
 
 not_stopping : (phase other : Phase) → other ≢ Stopping → phase ≡ other → phase ≢ Stopping
@@ -73,7 +74,8 @@ continued_moves command id mode Starting state e = goes mode (not_stopping state
 continued_moves command id mode Break state e = goes mode (not_stopping state.phase Break (λ f. cc) e)
 continued_moves command id mode Stopping state e = stays
 
-session_moves : (command id : Text) (r : Request) (state : State) → Moves state (session_done command id r state).next
+session_moves : (command id : Text) (r : SessionRequest) (state : State)
+    → Moves state (session_done command id r state).next
 session_moves command id (request.FeatureSet name value) state = sets _
 session_moves command id (request.Continue mode) state = continued_moves command id mode state.phase state refl
 session_moves command id (request.Finish Stop) state = stays
@@ -82,16 +84,16 @@ session_moves command id (request.Redirect Stdout mode) state = directs mode
 session_moves command id (request.Redirect Stderr mode) state = stays
 session_moves command id r state = stays
 
-done_moves : (side : Side) (command id : Text) (r : Request) (state : State) → (side ≡ Writes → state.phase ≡ Break)
-    → Moves state (done_on side command id r state).next
-done_moves Session command id r state h = session_moves command id r state
-done_moves Breakpoints command id r state h = holds _
-done_moves Program command id r state h = stays
-done_moves Writes command id r state h =
+done_moves : (command id : Text) (r : Request) (state : State) → IsTimely state.phase r
+    → Moves state (performed command id r state).next
+done_moves command id (Session r) state h = session_moves command id r state
+done_moves command id (Breakpoints r) state h = holds _
+done_moves command id (Look r) state h = stays
+done_moves command id (Write r) state h =
     by (write_response state.bundle state.features (program_of state) command id r)
     (requested_write (program_of state) r) where
-      by : (told : Result Response ℕ) (w : Result Write ℕ) → Moves state (kept_if told w state)
-      by (Ok r) (Ok w) = writes_on w (h refl)
+      by : (told : Result Response ErrorCode) (w : Result ProgramWrite ErrorCode) → Moves state (kept_if told w state)
+      by (Ok r) (Ok w) = writes_on w h
       by (Ok r) (Err code) = stays
       by (Err code) w = stays
 
@@ -99,10 +101,9 @@ asked_moves : (line : Line) (name : Option CommandName) (state : State) → of_c
     → Moves state (turn_by_command line.name (id_of line) (option_map (command_as line) name) state).next
 asked_moves line None state a = stays
 asked_moves line (Some name) state a =
-    done_moves (side_of (request_of name line)) line.name (id_of line) (request_of name line) state
-    (λ s. writes_at_break name line state.phase s a)
+    done_moves line.name (id_of line) (request_of name line) state (writes_at_break name line state.phase a)
 
-turn_of_moves : (line : Option Line) (code : Option ℕ) (state : State) → refusal_of_line state line ≡ code
+turn_of_moves : (line : Option Line) (code : Option ErrorCode) (state : State) → refusal_of_line state line ≡ code
     → Moves state (turn_of line code state).next
 turn_of_moves line (Some code) state e = stays
 turn_of_moves None None state e = absurd cc
@@ -346,7 +347,8 @@ module _ (bundle : Bundle) (bound : ℕ) where
   moved_grows state h not_over mode (Some j) e = stopped_grows state h not_over mode j e
 
   -- one write more, in a break
-  written_grows : (state : State) → IsPlain state → (w : Write) → state.phase ≡ Break → Grows state (with_write w state)
+  written_grows : (state : State) → IsPlain state → (w : ProgramWrite) → state.phase ≡ Break
+      → Grows state (with_write w state)
   written_grows state h w e = by state.phase e h.placed where
     next : State
     next = with_write w state

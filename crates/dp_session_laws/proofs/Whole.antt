@@ -1,6 +1,6 @@
 -- What the engine sends, served alone, is whole packets: each text of a session, whatever bytes come, is one of a
 -- packet.
-use Rattle.std.proofs.Common.{◌≡◌, ℕ, ◌≤◌, Bool, true, false, not, if◌then◌else◌, List, [], ◌∷◌, ◌++◌, length, Option, Some, None, refl, ap, subst, ◌∙◌, arith, append_assoc, decimal, nat_le}
+use Rattle.std.proofs.Common.{◌≡◌, ℕ, ◌≤◌, Bool, true, false, if◌then◌else◌, List, [], ◌∷◌, ◌++◌, length, Option, Some, None, refl, ap, subst, ◌∙◌, arith, append_assoc, decimal, nat_le}
 use Rattle.std.specs.Prelude.{◌&&◌, cond, is_some, option_and_then, option_map, IfSome, Result, Ok, Err}
 use Rattle.std.specs.List.{AllByRecursion, flat_map}
 use Rattle.std.specs.Option.{option_map_or}
@@ -11,13 +11,20 @@ use Rattle.dp_value.specs.Decimals.{decimal_in, is_decimal}
 use Rattle.dp_tree.specs.declared.bundle.Bundle.{Bundle}
 use Rattle.dp_breakpoint_commands.specs.Commands.{breakpoint_response}
 use Rattle.dp_command.specs.declared.command.BreakpointAction.TheVariants.{Get, Remove}
-use Rattle.dp_command.specs.Tests.{first_code}
+use Rattle.dp_packet.specs.declared.error_codes.ErrorCode.{ErrorCode}
+use Rattle.dp_packet.specs.declared.error_codes.ErrorCode.TheVariants.{UnimplementedCommand}
 use Rattle.dp_packet.specs.declared.packet.Response.{Response}
 use Rattle.dp_view_commands.specs.Views.{view_response}
 use Rattle.dp_command.specs.declared.command.Continuation.{Continuation}
 use Rattle.dp_command.specs.declared.command.Finish.TheVariants.{Stop, Detach}
 use Rattle.dp_command.specs.declared.command.Request.{Request}
-use Rattle.dp_command.specs.declared.command.Request.TheVariants as request
+use Rattle.dp_command.specs.declared.command.Request.TheVariants.{Session, Breakpoints, Look, Write}
+use Rattle.dp_command.specs.declared.command.SessionRequest.{SessionRequest}
+use Rattle.dp_command.specs.declared.command.SessionRequest.TheVariants as request
+use Rattle.dp_command.specs.declared.command.BreakpointRequest.{BreakpointRequest}
+use Rattle.dp_command.specs.declared.command.BreakpointRequest.TheVariants as asked
+use Rattle.dp_command.specs.declared.command.LookRequest.{LookRequest}
+use Rattle.dp_command.specs.declared.command.WriteRequest.{WriteRequest}
 use Rattle.dp_command.specs.declared.command.Stream.TheVariants.{Stdout, Stderr}
 use Rattle.dp_command.specs.declared.line.Line.{Line}
 use Rattle.dp_command.specs.declared.names.CommandName.{CommandName}
@@ -26,14 +33,14 @@ use Rattle.dp_command.specs.Letters as letter
 use Rattle.dp_command.specs.Lines.{line_of}
 use Rattle.dp_command.specs.Names.{name_of}
 use Rattle.dp_command.specs.Options.{given}
-use Rattle.dp_command.specs.Refusals.{fits_row, id_of, is_id, id_in as id_from}
+use Rattle.dp_command.specs.Refusals.{id_of, is_id, id_in as id_from}
 use Rattle.dp_command.proofs.Decoded.{back_is, front_is}
 use Rattle.dp_command.proofs.LineLaws.{line_found}
 use Rattle.dp_command.proofs.Short.{values_short}
 use Rattle.dp_features.specs.declared.feature.Feature.{Feature}
 use Rattle.dp_features.specs.declared.feature.Feature.TheVariants.{Encoding, MultipleSessions, MaxChildren, MaxData, MaxDepth, ShowHidden, NotifyOk}
 use Rattle.dp_features.specs.Features.{Features, feature_named, number_in, number_of, setting_named, value_of, with_number}
-use Rattle.dp_meaning.specs.declared.writes.Write.{Write}
+use Rattle.dp_meaning.specs.declared.writes.Write.{Write as ProgramWrite}
 use Rattle.dp_packet.specs.Parts.{Text, flag}
 use Rattle.dp_packet.specs.declared.packet.Packet.TheVariants as packet
 use Rattle.dp_packet.proofs.LengthLaws.{bare_response_short, packet_some}
@@ -49,25 +56,20 @@ use Rattle.dp_engine.specs.declared.states.Phase.{Phase}
 use Rattle.dp_engine.specs.declared.states.Phase.TheVariants.{Starting, Break, Stopping}
 use Rattle.dp_engine.specs.declared.states.Reason.{Reason}
 use Rattle.dp_engine.specs.declared.states.Reason.TheVariants as reason
-use Rattle.dp_engine.specs.declared.sides.Side.{Side}
-use Rattle.dp_engine.specs.declared.sides.Side.TheVariants.{Session, Breakpoints, Program, Writes}
-use Rattle.dp_engine.specs.Answers.{Turn, answer, command_in, continued, done_on, feature_answer, gone_on, id_in, in_packet, kept_if, moved, response_in, session_done, set_by, state_response, turn, turn_by_command, turn_of}
-use Rattle.dp_engine.specs.Refusals.{own_tests, refusal_of_line, row_tests, tests_on}
-use Rattle.dp_engine.specs.Sides.{side_of}
+use Rattle.dp_engine.specs.Answers.{Turn, answer, command_in, continued, feature_answer, gone_on, id_in, in_packet, kept_if, moved, performed, response_in, session_done, set_by, state_response, turn, turn_by_command, turn_of}
+use Rattle.dp_engine.specs.Refusals.{refusal_of_line}
 use Rattle.dp_engine.specs.Responses.{init_text, main_name, response, response_text}
 use Rattle.dp_engine.specs.Served.{alone, answers}
 use Rattle.dp_session_laws.specs.AllOutput.{AreBytes}
 use Rattle.dp_engine.specs.Session.{State, breaks_of, here, opening, program_of, stop_of, written_between}
-use Rattle.dp_engine.specs.inner.Sizes.{Fits, IsShort, IsShortLine, IsShortRequest}
+use Rattle.dp_engine.specs.inner.Sizes.{AreShortNames, Fits, IsShort, IsShortLine, IsShortRequest}
 use Rattle.dp_engine.specs.States.{phase_name, reason_name}
-use Rattle.dp_engine.proofs.ResponseSizes.{fault_fits, feature_fits_if, init_fits, refusal_is_code, request_short, set_fits, status_fits, success_fits}
+use Rattle.dp_engine.proofs.ResponseSizes.{fault_fits, feature_fits_if, init_fits, request_short, set_fits, status_fits, success_fits}
 use Rattle.dp_engine.proofs.StreamPackets.{both_texts, sent_texts}
-use Rattle.dp_view_commands.proofs.Sent.{code as shows_code, sent as shows}
+use Rattle.dp_view_commands.proofs.Sent.{sent as shows}
 use Rattle.dp_write_commands.specs.Requests.{requested_write}
 use Rattle.dp_write_commands.specs.Responses.{write_response}
 use Rattle.dp_write_commands.proofs.Sent.{sent as writes}
-use Rattle.dp_engine.proofs.WriteAnswers.{known_code}
-use Rattle.dp_engine.proofs.RefusalLaws.{allowed, passed}
 
 -- ---- lines
 
@@ -300,7 +302,7 @@ module _ (command id : Text) (p : length command ≤ 64) (q : length id ≤ 64) 
       (option_map_or (λ feature. true) (feature_named name) (is_some (name_of name))))
       (told_short state.features (feature_named name) h.small)
 
-  session_good : (r : Request) → IsShortRequest r → IsGood (session_done command id r state)
+  session_good : (r : SessionRequest) → AreShortNames r → IsGood (session_done command id r state)
   session_good request.Status few = record { fits = tells state; next = h }
   session_good (request.FeatureGet name) few = record { fits = told_good name few; next = h }
   session_good (request.FeatureSet name value) few = record {
@@ -315,16 +317,15 @@ module _ (command id : Text) (p : length command ≤ 64) (q : length id ≤ 64) 
   session_good (request.Redirect Stdout mode) few =
       record { fits = success_fits command id p q true; next = record { small = h.small } }
   session_good (request.Redirect Stderr mode) few = record { fits = success_fits command id p q false; next = h }
-  session_good r few = record { fits = fault_fits command id p q 4 refl; next = h }
 
   -- a response to a breakpoint command
-  breakpoint_known : (r : Request)
+  breakpoint_known : (r : BreakpointRequest)
       → HasMessage (packet.Response (breakpoint_response state.bundle command id state.breaks r))
-  breakpoint_known (request.BreakpointSet set) = refl
-  breakpoint_known (request.Breakpoint Get number) = refl
-  breakpoint_known (request.Breakpoint Remove number) = refl
-  breakpoint_known request.BreakpointList = refl
-  breakpoint_known other = refl
+  breakpoint_known (asked.Set set) = refl
+  breakpoint_known (asked.One Get number) = refl
+  breakpoint_known (asked.One Remove number) = refl
+  breakpoint_known (asked.Update update) = refl
+  breakpoint_known asked.List = refl
 
   in_packet_fits : (r : Response) → HasMessage (packet.Response r) → Fits (in_packet command id r)
   unfolding response_text
@@ -334,40 +335,37 @@ module _ (command id : Text) (p : length command ≤ 64) (q : length id ≤ 64) 
     by true e = record { known = known; short = leb-true (length (text (packet.Response r))) packet_limit e }
     by false e = record { known = refl; short = omega (arith, bare_response_short command id []) }
 
-  shown_fits : (r : Request) → (made : Result Response ℕ)
+  shown_fits : (r : LookRequest) → (made : Result Response ErrorCode)
       → view_response state.bundle (here state) state.features (program_of state) command id r ≡ made
       → Fits (response_in command id made)
   unfolding response_text
   shown_fits r (Ok response) e =
       let sent = shows state.bundle (here state) state.features (program_of state) command id r response e in record
       { known = sent.known; short = sent.short }
-  shown_fits r (Err code) e =
-      fault_fits command id p q code (shows_code state.bundle (here state) state.features
-      (program_of state) command id r code e)
+  shown_fits r (Err code) e = fault_fits command id p q code
 
   -- the response to a write
-  written_fits : (r : Request) → (made : Result Response ℕ)
+  written_fits : (r : WriteRequest) → (made : Result Response ErrorCode)
       → write_response state.bundle state.features (program_of state) command id r ≡ made
       → Fits (response_in command id made)
   unfolding response_text
   written_fits r (Ok response) e =
       let sent = writes state.bundle state.features (program_of state) command id r p q response e in record
       { known = sent.known; short = sent.short }
-  written_fits r (Err code) e =
-      fault_fits command id p q code (known_code state.bundle state.features (program_of state) command id r code e)
+  written_fits r (Err code) e = fault_fits command id p q code
 
-  kept_usual : (told : Result Response ℕ) (asked : Result Write ℕ) → IsUsual (kept_if told asked state)
+  kept_usual : (told : Result Response ErrorCode) (asked : Result ProgramWrite ErrorCode)
+      → IsUsual (kept_if told asked state)
   kept_usual (Ok r) (Ok w) = record { small = h.small }
   kept_usual (Ok r) (Err code) = h
   kept_usual (Err code) requested = h
 
-  done_good : (side : Side) (r : Request) → first_code (tests_on side state command id r) ≡ None → IsShortRequest r
-      → IsGood (done_on side command id r state)
-  done_good Session r e few = session_good r few
-  done_good Breakpoints r e few =
+  done_good : (r : Request) → IsShortRequest r → IsGood (performed command id r state)
+  done_good (Session r) few = session_good r few
+  done_good (Breakpoints r) few =
       record { fits = in_packet_fits _ (breakpoint_known r); next = record { small = h.small } }
-  done_good Program r e few = record { fits = shown_fits r _ refl; next = h }
-  done_good Writes r e few = record {
+  done_good (Look r) few = record { fits = shown_fits r _ refl; next = h }
+  done_good (Write r) few = record {
     fits = written_fits r _ refl;
     next =
         kept_usual (write_response state.bundle state.features (program_of state) command id r)
@@ -376,30 +374,27 @@ module _ (command id : Text) (p : length command ≤ 64) (q : length id ≤ 64) 
 
 module _ (state : State) (h : IsUsual state) where
   asked_good : (line : Line) → IsShort line → (name : Option CommandName)
-      → first_code (option_map_or (row_tests state line) name []) ≡ None
       → ((n : CommandName) → name ≡ Some n → IsShortRequest (request_of n line))
       → IsGood (turn_by_command line.name (id_of line) (option_map (command_as line) name) state)
-  asked_good line few None e short =
+  asked_good line few None short =
       record {
-        fits = fault_fits line.name (id_of line) few.name (line_id_short (Some line)) 4 refl;
+        fits = fault_fits line.name (id_of line) few.name (line_id_short (Some line)) UnimplementedCommand;
         next = h;
       }
-  asked_good line few (Some name) e short =
-      done_good line.name (id_of line) few.name (line_id_short (Some line)) state h (side_of (request_of name line))
-      (request_of name line) (passed (not (fits_row name line)) 3
-      (own_tests state line.name (id_of line) (request_of name line)) e).1 (short name refl)
+  asked_good line few (Some name) short =
+      done_good line.name (id_of line) few.name (line_id_short (Some line)) state h (request_of name line)
+      (short name refl)
 
-  turn_good : (line : Option Line) → IsShortLine line → (code : Option ℕ) → refusal_of_line state line ≡ code
+  turn_good : (line : Option Line) → IsShortLine line → (code : Option ErrorCode) → refusal_of_line state line ≡ code
       → IsGood (turn_of line code state)
   turn_good line few (Some code) e = record {
     fits =
-        fault_fits (command_in line) (id_in line) (name_short line few) (line_id_short line) code
-        (refusal_is_code state line code e);
+        fault_fits (command_in line) (id_in line) (name_short line few) (line_id_short line) code;
     next = h;
   }
   turn_good None few None e = absurd cc
   turn_good (Some line) few None e =
-      asked_good line few (name_of line.name) (allowed state line e).1 (λ name n. request_short line name few)
+      asked_good line few (name_of line.name) (λ name n. request_short line name few)
 
   is_good : (bytes : List ℕ) → IsSpoken bytes → IsGood (turn state bytes)
   unfolding turn

@@ -1,25 +1,27 @@
 //! What holds of every session.
-ghost use Rattle.std.specs.Prelude.{◌≡◌, ◌≤◌, List, [], ◌∷◌, ℕ, ◌++◌, length};
+ghost use Rattle.std.specs.Prelude.{◌≡◌, ◌≤◌, List, [], ◌∷◌, ℕ, ◌++◌, length, option_map};
 ghost use Rattle.dp_tree.specs.FileNames.{file_name_limit};
 ghost use Rattle.dp_tree.specs.declared.bundle.Bundle.{Bundle};
 ghost use Rattle.dp_command.specs.declared.command.Command.{Command};
+ghost use Rattle.dp_command.specs.declared.command.LookRequest.{LookRequest};
+ghost use Rattle.dp_command.specs.declared.command.Request.TheVariants.{Look, Write};
+ghost use Rattle.dp_command.specs.declared.command.WriteRequest.{WriteRequest};
 ghost use Rattle.dp_command.specs.declared.line.Line.{Line};
-ghost use Rattle.dp_engine.specs.declared.sides.Side.TheVariants.{Program, Writes};
 ghost use Rattle.dp_engine.specs.Answers.{turn};
 ghost use Rattle.dp_engine.specs.Refusals.{refusal};
 ghost use Rattle.dp_outside.specs.Names.{key_limit};
+ghost use Rattle.dp_packet.specs.Messages.{number};
 ghost use Rattle.dp_engine.specs.Responses.{fault_in, init_text, main_name};
 ghost use Rattle.dp_engine.specs.Served.{alone, answers, ending, own, writes};
 ghost use Rattle.dp_session_laws.specs.AllOutput.{all_output, AreBytes, Begins, IsRunWith, NeverRedirects};
 ghost use Rattle.dp_engine.specs.Session.{opening, State};
 ghost use Rattle.dp_session_laws.specs.Shown.{IsAccepted, IsInRun, IsShown, IsTaken, WritesNothing};
-ghost use Rattle.dp_engine.specs.Sides.{side_of};
 ghost use Rattle.dp_wire.specs.Frames.{commands_in, packets_in};
 
 /// A response is an error exactly where the table of commands and states says so, and with that code.
 pub fn refused_exactly()
     ensures { (state : State) (bytes : List ℕ)
-        → fault_in (turn state bytes).response.body ≡ refusal state bytes }
+        → fault_in (turn state bytes).response.body ≡ option_map number (refusal state bytes) }
 {}
 
 /// What the engine sends, served alone, is whole packets: the first one, and those of its answers. The key has at most
@@ -59,16 +61,16 @@ pub fn watching_changes_nothing()
 pub fn replies_show_the_run()
     ensures stands { (bundle : Bundle) (bound : ℕ) (bytes : List ℕ)
         → IsInRun bundle bound (answers bundle bound bytes).state }
-    ensures shown { (state : State) (bytes : List ℕ) (line : Line) (command : Command)
-        → IsTaken state bytes line command → side_of command.request ≡ Program
-        → IsShown state line command (turn state bytes) }
+    ensures shown { (state : State) (bytes : List ℕ) (line : Line) (command : Command) (look : LookRequest)
+        → IsTaken state bytes line command → command.request ≡ Look look
+        → IsShown state line command look (turn state bytes) }
 {}
 
 /// A write is kept exactly where a command asks for it that is not refused.
 pub fn writes_are_those_accepted()
-    ensures accepted { (state : State) (bytes : List ℕ) (line : Line) (command : Command)
-        → IsTaken state bytes line command → side_of command.request ≡ Writes
-        → IsAccepted state line command (turn state bytes) }
+    ensures accepted { (state : State) (bytes : List ℕ) (line : Line) (command : Command) (asked : WriteRequest)
+        → IsTaken state bytes line command → command.request ≡ Write asked
+        → IsAccepted state line command asked (turn state bytes) }
     ensures none_else { (state : State) (bytes : List ℕ) → WritesNothing state bytes
         → (turn state bytes).next.writes ≡ state.writes }
 {}

@@ -9,6 +9,8 @@ use Rattle.std.specs.Str.{bytes_eq}
 use Rattle.std.proofs.lemmas.List.{append-nil}
 use Rattle.std.proofs.lemmas.Map.Keys.{IsDistinct-head, IsDistinct-tail}
 use Rattle.std.proofs.lemmas.Option.{slice_get-map, slice_get_past, slice_get_within}
+use Rattle.dp_packet.specs.declared.error_codes.ErrorCode.{ErrorCode}
+use Rattle.dp_packet.specs.declared.error_codes.ErrorCode.TheVariants.{CannotGetProperty}
 use Rattle.dp_packet.specs.declared.property.Property.{Property}
 use Rattle.dp_packet.specs.declared.property.Shape.{Shape}
 use Rattle.dp_packet.specs.declared.property.Shape.TheOpen.{Shape-F}
@@ -269,7 +271,7 @@ further (at ∷ places) path p d q keyed h =
 
 -- ---- in a state
 
-ok_some : (o : Option Data) (d : Data) → ok_or {E = ℕ} o 300 ≡ Ok d → o ≡ Some d
+ok_some : (o : Option Data) (d : Data) → ok_or {E = ErrorCode} o CannotGetProperty ≡ Ok d → o ≡ Some d
 ok_some None d e = absurd cc
 ok_some (Some x) d e = cc
 
@@ -285,10 +287,11 @@ module _ (s : State) (level id : ℕ) (path : Path) (keys : List Key) (d e : Dat
 
   value_at_more : value_at s level id path ≡ Ok d → value_at s level id (with_keys path keys) ≡ Ok e
   value_at_more h = by (shown_variables s level id) h where
-    by : (r : Result Variables ℕ) → and_then (λ vs. ok_or (value_among s.globals path vs) 300) r ≡ Ok d
-        → and_then (λ vs. ok_or (value_among s.globals (with_keys path keys) vs) 300) r ≡ Ok e
+    by : (r : Result Variables ErrorCode)
+        → and_then (λ vs. ok_or (value_among s.globals path vs) CannotGetProperty) r ≡ Ok d
+        → and_then (λ vs. ok_or (value_among s.globals (with_keys path keys) vs) CannotGetProperty) r ≡ Ok e
     by (Err code) h = absurd cc
-    by (Ok vs) h = ap (λ o. ok_or o 300) (among_more vs (ok_some (value_among s.globals path vs) d h))
+    by (Ok vs) h = ap (λ o. ok_or o CannotGetProperty) (among_more vs (ok_some (value_among s.globals path vs) d h))
 
 pub has_paths : (s : State) (level id : ℕ) (path : Path) (p : Paging) (d : Data) → value_at s level id path ≡ Ok d
     → IsKeyed p.children p.page p.depth d
@@ -368,8 +371,8 @@ of_variables s level id p variables shown distinct keyed = λ at q h.
     let value : value_in s.globals variables f.variable.0 ≡ Some f.value = ap
     (λ o. value_through o (value_held (slot_of s.globals f.variable.0))) slot ∙ f.has in
     let there : value_at s level id path ≡ Ok (data_of f.value) =
-    ap (and_then (λ vs. ok_or (value_among s.globals path vs) 300)) shown
-    ∙ ap (λ o. ok_or (option_and_then (λ v. value_under [] (data_of v)) o) 300) value in
+    ap (and_then (λ vs. ok_or (value_among s.globals path vs) CannotGetProperty)) shown
+    ∙ ap (λ o. ok_or (option_and_then (λ v. value_under [] (data_of v)) o) CannotGetProperty) value in
     let here : IsKeyed p.children p.page p.depth (data_of f.value) =
     keyed f.place (slice_get_within variables f.place f.variable f.there) f.variable f.value f.there f.has in
     record {

@@ -10,6 +10,8 @@ use Rattle.dp_value.specs.Data.{Data, array, pairs_of}
 use Rattle.dp_value.specs.Key.{key_eq}
 use Rattle.dp_value.specs.Table.{find_value}
 use Rattle.dp_value.specs.Value.{data_of}
+use Rattle.dp_packet.specs.declared.error_codes.ErrorCode.{ErrorCode}
+use Rattle.dp_packet.specs.declared.error_codes.ErrorCode.TheVariants.{CannotGetProperty, StackDepthInvalid, ContextInvalid}
 use Rattle.dp_view.specs.Answers.{and_then}
 
 -- the contexts, by their names and ids
@@ -23,9 +25,10 @@ variables_of s level id =
 
 -- The same, or the code of a refusal: 301 where the level is not below the number of frames, else
 -- 302 where there is no such context.
-abbrev pub shown_variables : State → ℕ → ℕ → Result Variables ℕ
+abbrev pub shown_variables : State → ℕ → ℕ → Result Variables ErrorCode
 shown_variables s level id =
-    if nat_lt level (length s.frames) then ok_or (variables_of s level id) 302 else Err 301
+    if nat_lt level (length s.frames) then ok_or (variables_of s level id) ContextInvalid
+    else Err StackDepthInvalid
 
 -- what stands under a key in a value, which must be an array
 abbrev pub entry_of : Key → Data → Option Data
@@ -46,7 +49,7 @@ value_among globals path variables =
 
 -- what stands at a path in a context at a level, or the code of a refusal: 301, 302, and 300 where
 -- nothing stands there
-abbrev pub value_at : State → ℕ → ℕ → Path → Result Data ℕ
+abbrev pub value_at : State → ℕ → ℕ → Path → Result Data ErrorCode
 value_at s level id path =
-    and_then (λ variables. ok_or (value_among s.globals path variables) 300)
+    and_then (λ variables. ok_or (value_among s.globals path variables) CannotGetProperty)
     (shown_variables s level id)

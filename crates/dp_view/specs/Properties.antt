@@ -2,6 +2,7 @@
 use Rattle.std.specs.Prelude.{ℕ, Bool, true, false, zero, suc, ◌*◌, List, [], ◌∷◌, length, map, take, drop, Option, Some, None, Result, Ok}
 use Rattle.std.specs.List.{flat_map}
 use Rattle.std.specs.Option.{option_map_or}
+use Rattle.dp_packet.specs.declared.error_codes.ErrorCode.{ErrorCode}
 use Rattle.dp_packet.specs.declared.property.Property.{Property}
 use Rattle.dp_packet.specs.declared.property.Shape.{Shape}
 use Rattle.dp_packet.specs.declared.property.Shape.TheVariants as shape
@@ -78,7 +79,7 @@ abbrev pub path_property : Path → Paging → Data → Property
 path_property path p d = property_of p (Some (own_name path)) (Some (full_name path)) d
 
 -- the same of what stands there in a context at a level, or the code of a refusal
-abbrev pub property_at : State → ℕ → ℕ → Path → Paging → Result Property ℕ
+abbrev pub property_at : State → ℕ → ℕ → Path → Paging → Result Property ErrorCode
 property_at s level id path p =
     and_then (λ d. Ok (path_property path p d)) (value_at s level id path)
 
@@ -99,7 +100,7 @@ variable_shown p globals v =
 
 -- what a context at a level shows: its variables in the order of their first assignment, or the
 -- code of a refusal
-abbrev pub context_at : State → ℕ → ℕ → Paging → Result (List Property) ℕ
+abbrev pub context_at : State → ℕ → ℕ → Paging → Result (List Property) ErrorCode
 context_at s level id p =
     and_then (λ variables. Ok (flat_map (variable_shown p s.globals) variables))
     (shown_variables s level id)

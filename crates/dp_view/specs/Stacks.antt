@@ -2,6 +2,8 @@
 use Rattle.std.specs.Prelude.{ℕ, suc, List, [], ◌∷◌, reverse, codes, Option, Some, None, option_map, ok_or, slice_get, Result, Ok}
 use Rattle.std.specs.Option.{option_map_or}
 use Rattle.dp_tree.specs.declared.bundle.Bundle.{Bundle}
+use Rattle.dp_packet.specs.declared.error_codes.ErrorCode.{ErrorCode}
+use Rattle.dp_packet.specs.declared.error_codes.ErrorCode.TheVariants.{StackDepthInvalid}
 use Rattle.dp_packet.specs.declared.packet.StackLine.{StackLine}
 use Rattle.dp_packet.specs.Uris.{file_uri}
 use Rattle.dp_state.specs.declared.state.Frame.{Frame}
@@ -40,8 +42,8 @@ levels s = reverse s.frames
 
 -- the whole stack, or the line of one level, or the code of a refusal: 301 where there is no such
 -- level
-abbrev pub stack_at : Bundle → State → Option ℕ → Result (List StackLine) ℕ
+abbrev pub stack_at : Bundle → State → Option ℕ → Result (List StackLine) ErrorCode
 stack_at bundle s None = Ok (lines_from bundle 0 (levels s))
 stack_at bundle s (Some level) =
     ok_or (option_map (λ frame. stack_line bundle level frame ∷ []) (slice_get (levels s) level))
-    301
+    StackDepthInvalid

@@ -3,6 +3,7 @@
 ghost use Rattle.std.specs.Prelude.{◌≡◌};
 ghost use Rattle.dp_view.specs.declared.errors.ViewError.TheVariants.{Memory};
 
+use dp_packet::ErrorCode;
 use std::alloc::{AllocError, AllocFailed};
 use thiserror::Error;
 
@@ -12,8 +13,8 @@ pub enum ViewError {
     /// The code of the error response, DBGp 1.0, "Error Codes". Of this crate's calls: 301 where the stack has no such
     /// level, 302 where there is no such context, 300 where a name is no name of a property or nothing stands there,
     /// tried in this order. Calls of other crates that answer this type say which codes are theirs.
-    #[error("error {0}")]
-    Code(u16),
+    #[error("error {0:?}")]
+    Code(ErrorCode),
     /// Out of memory.
     #[error("out of memory")]
     Memory,

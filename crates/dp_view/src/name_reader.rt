@@ -9,6 +9,7 @@ ghost use Rattle.dp_view.specs.inner.Items.{key_meant, keys_taken, text_taken};
 use crate::Memory;
 use crate::errors::ViewError;
 use crate::spelling::{Spelling, byte, index, parts};
+use dp_packet::ErrorCode;
 use dp_state::Path;
 use dp_value::{Bytes, Items, Key, int_of_text};
 use std::alloc::Global;
@@ -76,10 +77,10 @@ fn keys(alloc: Global, bytes: &[u8]) -> Result<Vec<Key>, Memory>
 ///
 /// The code is 300, exactly where the bytes name no path; then no memory is taken.
 pub fn read_name(alloc: Global, bytes: &[u8]) -> Result<Path, ViewError>
-    ensures { Answers (λ path. path) result (ok_or (path_at bytes.now) 300) }
+    ensures { Answers (λ path. path) result (ok_or (path_at bytes.now) ErrorCode.CannotGetProperty) }
 {
     let Some((name, indices)) = parts(bytes) else {
-        return Err(ViewError::Code(300));
+        return Err(ViewError::Code(ErrorCode::CannotGetProperty));
     };
     Ok(Path {
         name: Bytes::from_slice(alloc, name)?,

@@ -7,6 +7,7 @@ ghost use Rattle.dp_view.specs.Answers.{AnswersSurely};
 ghost use Rattle.dp_view.specs.Places as spec;
 
 use crate::errors::ViewError;
+use dp_packet::ErrorCode;
 use dp_state::{Path, Slot, State, Vars};
 use dp_value::{Bytes, Key, Value};
 
@@ -27,11 +28,11 @@ pub fn shown_variables(state: &State, level: u32, id: u32) -> Result<&Vars, View
 {
     let level = level as usize;
     if level >= state.frames.len() {
-        return Err(ViewError::Code(301));
+        return Err(ViewError::Code(ErrorCode::StackDepthInvalid));
     }
     match variables_of(state, level, id) {
         Some(variables) => Ok(variables),
-        None => Err(ViewError::Code(302)),
+        None => Err(ViewError::Code(ErrorCode::ContextInvalid)),
     }
 }
 
@@ -116,6 +117,6 @@ pub fn value_at<'s>(
     let variables = shown_variables(state, level, id)?;
     match value_among(&state.globals, variables, path) {
         Some(value) => Ok(value),
-        None => Err(ViewError::Code(300)),
+        None => Err(ViewError::Code(ErrorCode::CannotGetProperty)),
     }
 }

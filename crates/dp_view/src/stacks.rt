@@ -7,7 +7,7 @@ ghost use Rattle.dp_view.specs.inner.Additions.{line_of};
 
 use crate::Memory;
 use crate::errors::ViewError;
-use dp_packet::{StackLine, file_uri};
+use dp_packet::{ErrorCode, StackLine, file_uri};
 use dp_state::{Frame, FrameKind, State};
 use dp_tree::Bundle;
 use dp_value::{Bytes, Items};
@@ -127,6 +127,6 @@ pub fn stack(
     };
     match frame_at(frames, level as usize) {
         Some(frame) => Ok(Items::of(one_line(alloc, bundle, level, frame)?)),
-        None => Err(ViewError::Code(301)),
+        None => Err(ViewError::Code(ErrorCode::StackDepthInvalid)),
     }
 }

@@ -6,10 +6,12 @@ use Rattle.std.specs.Prelude.{ℕ, ◌==◌, ◌||◌, nat_le, Bool, false, if�
 use Rattle.std.specs.Option.{option_map_or}
 use Rattle.dp_file_uris.specs.Files.{requested_file}
 use Rattle.dp_command.specs.declared.command.PropertyPlace.{PropertyPlace}
-use Rattle.dp_command.specs.declared.command.Request.{Request}
-use Rattle.dp_command.specs.declared.command.Request.TheVariants as request
+use Rattle.dp_command.specs.declared.command.LookRequest.{LookRequest}
+use Rattle.dp_command.specs.declared.command.LookRequest.TheVariants as request
 use Rattle.dp_command.specs.declared.command.SourceRange.{SourceRange}
 use Rattle.dp_features.specs.Features.{Features}
+use Rattle.dp_packet.specs.declared.error_codes.ErrorCode.{ErrorCode}
+use Rattle.dp_packet.specs.declared.error_codes.ErrorCode.TheVariants.{InvalidOptions, CannotOpenFile, CannotGetProperty}
 use Rattle.dp_packet.specs.declared.packet.Body.{Body}
 use Rattle.dp_packet.specs.declared.packet.Body.TheVariants as body
 use Rattle.dp_packet.specs.declared.packet.Packet.TheVariants as packet
@@ -48,30 +50,29 @@ paging features most page = record {
 abbrev pub depth_part : State → Part
 depth_part s = ((codes "depth", decimal (length s.frames)) ∷ [], body.Nothing)
 
--- 301
-abbrev pub stack_part : Bundle → State → Option ℕ → Result Part ℕ
+-- the whole stack, or one level
+abbrev pub stack_part : Bundle → State → Option ℕ → Result Part ErrorCode
 stack_part bundle s level =
     and_then (λ lines. Ok ([], body.Stacks lines)) (stack_at bundle s level)
 
--- 301, 302
 abbrev pub context_attributes : ℕ → Attributes
 context_attributes id = (codes "context", decimal id) ∷ []
 
-abbrev pub context_part : Features → State → ℕ → ℕ → Result Part ℕ
+abbrev pub context_part : Features → State → ℕ → ℕ → Result Part ErrorCode
 context_part features s level id =
     and_then (λ shown. Ok (context_attributes id, body.Properties shown))
     (context_at s level id (paging features None 0))
 
 -- ---- properties
 
--- 301, 302, and 300 where the name is none or nothing stands there
-abbrev pub property_part : Features → State → PropertyPlace → ℕ → Option ℕ → Result Part ℕ
+-- a property with what is nested in it
+abbrev pub property_part : Features → State → PropertyPlace → ℕ → Option ℕ → Result Part ErrorCode
 property_part features s place page most =
     and_then (λ shown. Ok ([], body.Properties (shown ∷ [])))
     (named_property s place.level place.context place.name (paging features most page))
 
--- the same codes
-abbrev pub value_part : State → PropertyPlace → Option ℕ → Result Part ℕ
+-- a value with its type
+abbrev pub value_part : State → PropertyPlace → Option ℕ → Result Part ErrorCode
 value_part s place most =
     and_then (λ shown. Ok (shown.attributes, body.Plain shown.text))
     (named_value s place.level place.context place.name most)
@@ -90,24 +91,23 @@ is_zero line = option_map_or (λ n. n == 0) line false
 abbrev pub source_attributes : Attributes
 source_attributes = (codes "success", codes "1") ∷ (codes "encoding", codes "base64") ∷ []
 
--- the lines asked for of a file's text, where there is the file: else 100
-abbrev pub lines_part : SourceRange → Option Text → Result Part ℕ
+-- the lines asked for of a file's text, where there is the file
+abbrev pub lines_part : SourceRange → Option Text → Result Part ErrorCode
 lines_part range file =
     and_then
     (λ t. Ok (source_attributes, body.Plain (base64 (source_lines range.first range.last t))))
-    (ok_or file 100)
+    (ok_or file CannotOpenFile)
 
--- 3 where a line is 0, 100 where there is no such file
-abbrev pub source_part : Bundle → ℕ → SourceRange → Result Part ℕ
+-- the same, where no line is 0, of the file that is asked for
+abbrev pub source_part : Bundle → ℕ → SourceRange → Result Part ErrorCode
 source_part bundle here range =
-    if is_zero range.first || is_zero range.last then Err 3
+    if is_zero range.first || is_zero range.last then Err InvalidOptions
     else lines_part range (option_map (λ f. f.text) (source_file bundle here range.file))
 
 -- ---- responses
 
--- What a command shows, or the code of its refusal, where its text has no limit. Another command
--- looks at nothing and is not known here.
-abbrev pub part_of : Bundle → ℕ → Features → State → Request → Result Part ℕ
+-- what a command shows, or the code of its refusal, where its text has no limit
+abbrev pub part_of : Bundle → ℕ → Features → State → LookRequest → Result Part ErrorCode
 part_of bundle here features s request.StackDepth = Ok (depth_part s)
 part_of bundle here features s (request.StackGet level) = stack_part bundle s level
 part_of bundle here features s request.ContextNames = Ok ([], body.Contexts contexts)
@@ -116,7 +116,6 @@ part_of bundle here features s (request.PropertyGet place page most) =
     property_part features s place page most
 part_of bundle here features s (request.PropertyValue place most) = value_part s place most
 part_of bundle here features s (request.Source range) = source_part bundle here range
-part_of bundle here features s other = Err 4
 
 abbrev pub response_with : Text → Text → Part → Response
 response_with command id part =
@@ -125,23 +124,24 @@ response_with command id part =
 abbrev pub is_short : Response → Bool
 is_short r = nat_le (length (text (packet.Response r))) packet_limit
 
--- a response, or 300 where its text passes the limit
-abbrev pub within_limit : Response → Result Response ℕ
-within_limit r = if is_short r then Ok r else Err 300
+-- a response, or a refusal where its text passes the limit
+abbrev pub within_limit : Response → Result Response ErrorCode
+within_limit r = if is_short r then Ok r else Err CannotGetProperty
 
 -- the same of what a command shows
-abbrev pub answered : Text → Text → Result Part ℕ → Result Response ℕ
+abbrev pub answered : Text → Text → Result Part ErrorCode → Result Response ErrorCode
 answered command id shown =
     and_then (λ part. within_limit (response_with command id part)) shown
 
 -- The response to a command of this name and transaction id, or the code of its refusal. `here` is
 -- the number of the file of the moment, 0 before the first.
-unfoldable pub view_response : Bundle → ℕ → Features → State → Text → Text → Request
-    → Result Response ℕ
+unfoldable pub view_response : Bundle → ℕ → Features → State → Text → Text → LookRequest
+    → Result Response ErrorCode
 view_response bundle here features s command id asked =
     answered command id (part_of bundle here features s asked)
 
 -- the code of its refusal
-unfoldable pub view_refusal : Bundle → ℕ → Features → State → Text → Text → Request → Option ℕ
+unfoldable pub view_refusal : Bundle → ℕ → Features → State → Text → Text → LookRequest
+    → Option ErrorCode
 view_refusal bundle here features s command id asked =
     code_in (view_response bundle here features s command id asked)

@@ -10,7 +10,7 @@ ghost use Rattle.dp_view_commands.specs.inner.Responses.{around};
 ghost use Rattle.dp_wire.specs.Frames.{packet_limit};
 
 use dp_command::Addressee;
-use dp_packet::{Body, Packet, Response, put_attribute, short_size, text_size};
+use dp_packet::{Body, ErrorCode, Packet, Response, put_attribute, short_size, text_size};
 use dp_value::{Bytes, Items, Memory};
 use dp_view::ViewError;
 use dp_wire::PACKET_LIMIT;
@@ -80,12 +80,12 @@ pub(crate) fn respond(
 
 /// A response, or 300 where it is not short.
 fn short_or_refused(response: Response, is_short: bool) -> Result<Response, ViewError>
-    ensures { AnswersSurely (λ r. r) result (if is_short then Ok response else Err 300) }
+    ensures { AnswersSurely (λ r. r) result (if is_short then Ok response else Err ErrorCode.CannotGetProperty) }
 {
     if is_short {
         Ok(response)
     } else {
-        Err(ViewError::Code(300))
+        Err(ViewError::Code(ErrorCode::CannotGetProperty))
     }
 }
 
@@ -97,10 +97,10 @@ pub(crate) fn limited(response: Response) -> Result<Response, ViewError>
     let is_short = text_size(&packet) <= u64::from(LIMIT);
     match packet {
         Packet::Response(response) => short_or_refused(response, is_short),
-        Packet::Init(_init) => Err(ViewError::Code(300)),
-        Packet::Stream(_bytes) => Err(ViewError::Code(300)),
-        Packet::Notify(_notify) => Err(ViewError::Code(300)),
-        Packet::Proxy(_reply) => Err(ViewError::Code(300)),
+        Packet::Init(_init) => Err(ViewError::Code(ErrorCode::CannotGetProperty)),
+        Packet::Stream(_bytes) => Err(ViewError::Code(ErrorCode::CannotGetProperty)),
+        Packet::Notify(_notify) => Err(ViewError::Code(ErrorCode::CannotGetProperty)),
+        Packet::Proxy(_reply) => Err(ViewError::Code(ErrorCode::CannotGetProperty)),
     }
 }
 

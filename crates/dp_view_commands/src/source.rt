@@ -9,7 +9,7 @@ use crate::packets::{encoded, limited, respond};
 use base64::engine::general_purpose::STANDARD;
 use dp_command::{Addressee, SourceRange};
 use dp_file_uris::requested_file;
-use dp_packet::{Body, Response};
+use dp_packet::{Body, ErrorCode, Response};
 use dp_tree::Bundle;
 use dp_value::{Bytes, Memory};
 use dp_view::{ViewError, source_lines};
@@ -101,7 +101,7 @@ fn file_response(
 {
     match source_text(alloc, bundle, here, &range.file)? {
         Some(text) => lines_response(alloc, range, text, to),
-        None => Err(ViewError::Code(100)),
+        None => Err(ViewError::Code(ErrorCode::CannotOpenFile)),
     }
 }
 
@@ -115,11 +115,12 @@ pub(crate) fn source_response(
 ) -> Result<Response, ViewError>
     ensures answer { Answers result (spec.answered to.now.command to.now.id
         (spec.source_part bundle.now here range.now)) }
-    ensures at_once { IfSome (if spec.is_zero range.now.first || spec.is_zero range.now.last then Some 3 else None)
+    ensures at_once { IfSome
+        (if spec.is_zero range.now.first || spec.is_zero range.now.last then Some ErrorCode.InvalidOptions else None)
         (λ code. result ≡ Err (ViewError.Code code)) }
 {
     if is_zero(range.first) || is_zero(range.last) {
-        return Err(ViewError::Code(3));
+        return Err(ViewError::Code(ErrorCode::InvalidOptions));
     }
     file_response(alloc, bundle, here, range, to)
 }

@@ -1,13 +1,13 @@
 //! The commands that look at a program.
 
 ghost use Rattle.std.specs.Prelude.{◌≡◌, Err, IfOk, IfSome};
-ghost use Rattle.dp_view_commands.specs.Results.{Answers, HasKnownCode, IsSent, refusal_at_once};
+ghost use Rattle.dp_view_commands.specs.Results.{Answers, IsSent, refusal_at_once};
 ghost use Rattle.dp_view_commands.specs.Views as spec;
 
 use crate::source::source_response;
 use crate::stacks::{depth_response, names_response, stack_response};
 use crate::values::{context_response, property_response, value_response};
-use dp_command::{Addressee, Request};
+use dp_command::{Addressee, LookRequest};
 use dp_features::Features;
 use dp_packet::Response;
 use dp_state::State;
@@ -24,7 +24,7 @@ fn look(
     features: &Features,
     state: &State,
     to: &Addressee,
-    request: &Request,
+    request: &LookRequest,
 ) -> Result<Response, ViewError>
     ensures answer { Answers result (spec.view_response
         bundle.now here features.now state.now to.now.command to.now.id request.now) }
@@ -33,22 +33,21 @@ fn look(
         (λ code. result ≡ Err (ViewError.Code code)) }
 {
     match request {
-        Request::StackDepth => depth_response(alloc, state, to),
-        Request::StackGet { level } => stack_response(alloc, bundle, state, *level, to),
-        Request::ContextNames => names_response(alloc, to),
-        Request::ContextGet { level, context } => {
+        LookRequest::StackDepth => depth_response(alloc, state, to),
+        LookRequest::StackGet { level } => stack_response(alloc, bundle, state, *level, to),
+        LookRequest::ContextNames => names_response(alloc, to),
+        LookRequest::ContextGet { level, context } => {
             context_response(alloc, bundle, features, state, *level, *context, to)
         }
-        Request::PropertyGet {
+        LookRequest::PropertyGet {
             place,
             page,
             max_data,
         } => property_response(alloc, features, state, place, *page, *max_data, to),
-        Request::PropertyValue { place, max_data } => {
+        LookRequest::PropertyValue { place, max_data } => {
             value_response(alloc, state, place, *max_data, to)
         }
-        Request::Source(range) => source_response(alloc, bundle, here, range, to),
-        _ => Err(ViewError::Code(4)),
+        LookRequest::Source(range) => source_response(alloc, bundle, here, range, to),
     }
 }
 
@@ -59,7 +58,7 @@ fn look(
 /// and 300 where the name is none or nothing stands there; of source 3 where a line is 0, and 100 where there is no
 /// such file. Then 300 where the text of the response would pass 16,777,216 bytes: of context_get and property_get this
 /// is found before anything is made, and no stack, no file and no text of a program is so long. Values are shown as the
-/// features say. Another command has 4.
+/// features say.
 pub fn view_response(
     alloc: Global,
     bundle: &Bundle,
@@ -67,7 +66,7 @@ pub fn view_response(
     features: &Features,
     state: &State,
     to: &Addressee,
-    request: &Request,
+    request: &LookRequest,
 ) -> Result<Response, ViewError>
     ensures answer { Answers result (spec.view_response
         bundle.now here features.now state.now to.now.command to.now.id request.now) }
@@ -76,7 +75,6 @@ pub fn view_response(
         (refusal_at_once bundle.now here features.now state.now to.now.command to.now.id request.now)
         (λ code. result ≡ Err (ViewError.Code code)) }
     ensures is_sent { IfOk result IsSent }
-    ensures known { HasKnownCode result }
 {
     look(alloc, bundle, here, features, state, to, request)
 }

@@ -12,7 +12,7 @@ ghost use Rattle.dp_view_limits.specs.Limits as spec;
 ghost use Rattle.dp_view_limits.specs.inner.AtPaths.{limited_at};
 
 use crate::measures::{property_fits, shown_fits, variables_fit};
-use dp_packet::Property;
+use dp_packet::{ErrorCode, Property};
 use dp_state::{Path, State};
 use dp_tree::Bundle;
 use dp_value::{Items, Value};
@@ -36,7 +36,7 @@ fn property_within(
     if property_fits(path, p, value, most) {
         property(alloc, state, level, id, path, p)
     } else {
-        Err(ViewError::Code(300))
+        Err(ViewError::Code(ErrorCode::CannotGetProperty))
     }
 }
 
@@ -89,7 +89,7 @@ pub fn limited_context(
     if variables_fit(p, &state.globals, variables, most) {
         context(alloc, bundle, state, level, id, p)
     } else {
-        Err(ViewError::Code(300))
+        Err(ViewError::Code(ErrorCode::CannotGetProperty))
     }
 }
 
@@ -108,6 +108,6 @@ pub fn limited_shown(
     if shown_fits(p, value, most) {
         Ok(shown(alloc, value, p)?)
     } else {
-        Err(ViewError::Code(300))
+        Err(ViewError::Code(ErrorCode::CannotGetProperty))
     }
 }

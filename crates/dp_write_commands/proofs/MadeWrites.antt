@@ -6,6 +6,8 @@ use Rattle.dp_meaning.specs.declared.writes.WriteFault.{WriteFault}
 use Rattle.dp_meaning.specs.declared.writes.WriteFault.TheVariants.{NoFrame, NoPlace}
 use Rattle.dp_meaning.specs.declared.writes.Write.TheVariants as write
 use Rattle.dp_meaning.specs.Writes.{evaluated, evaluation_setting, left_by, or_unchanged, place_answer, value_answer, with_place}
+use Rattle.dp_packet.specs.declared.error_codes.ErrorCode.{ErrorCode}
+use Rattle.dp_packet.specs.declared.error_codes.ErrorCode.TheVariants.{CannotGetProperty, StackDepthInvalid}
 use Rattle.dp_packet.specs.declared.packet.Body.TheVariants as body
 use Rattle.dp_packet.specs.declared.packet.Response.{Response}
 use Rattle.dp_packet.specs.Parts.{Text}
@@ -29,11 +31,11 @@ module _ (features : Features) (command id : Text) (before after : State) where
   place_made (Err NoFrame) e = absurd cc
   place_made (Err NoPlace) e = absurd cc
 
-  place_refused : (asked : Result State WriteFault) (code : ℕ) → coded asked ≡ Err code
+  place_refused : (asked : Result State WriteFault) (code : ErrorCode) → coded asked ≡ Err code
       → response_to features command id (place_answer asked) ≡ Err code
   place_refused (Ok s) code e = absurd cc
-  place_refused (Err NoFrame) code e = let same : 301 ≡ code = cc in ap (λ c. Err c) same
-  place_refused (Err NoPlace) code e = let same : 300 ≡ code = cc in ap (λ c. Err c) same
+  place_refused (Err NoFrame) code e = let same : StackDepthInvalid ≡ code = cc in ap (λ c. Err c) same
+  place_refused (Err NoPlace) code e = let same : CannotGetProperty ≡ code = cc in ap (λ c. Err c) same
 
   -- an evaluation that holds and is told
   evaluation_made : (asked : Option (Value × State)) (value : Option Value) (r : Response)
@@ -46,7 +48,7 @@ module _ (features : Features) (command id : Text) (before after : State) where
         (ap (left_by before) e),
   )
 
-  evaluation_refused : (asked : Option (Value × State)) (value : Option Value) (code : ℕ)
+  evaluation_refused : (asked : Option (Value × State)) (value : Option Value) (code : ErrorCode)
       → asked ≡ option_map (λ v. (v, after)) value → response_to features command id (answer_by value) ≡ Err code
       → response_to features command id (value_answer asked) ≡ Err code
   evaluation_refused asked None code e h =

@@ -5,6 +5,8 @@ use Rattle.std.proofs.lemmas.Bool.{leb-false, leb-true}
 use Rattle.std.proofs.lemmas.Bool.Decides.{nat_tests}
 use Rattle.dp_features.specs.Features.{Features}
 use Rattle.dp_markup.specs.Texts.{attribute_text, nodes_text}
+use Rattle.dp_packet.specs.declared.error_codes.ErrorCode.{ErrorCode}
+use Rattle.dp_packet.specs.declared.error_codes.ErrorCode.TheVariants.{ErrorEvaluatingCode, CannotGetProperty}
 use Rattle.dp_packet.specs.declared.packet.Body.{Body}
 use Rattle.dp_packet.specs.declared.packet.Body.TheVariants as body
 use Rattle.dp_packet.specs.declared.packet.Packet.TheVariants as packet
@@ -69,18 +71,18 @@ filled_is command id q =
 
 -- ---- limits
 
-abbrev ok_of : {A : Type 0} → A → Result A ℕ
+abbrev ok_of : {A : Type 0} → A → Result A ErrorCode
 ok_of a = Ok a
 
 fits : (r : Response) → length (text (packet.Response r)) ≤ packet_limit → within_limit r ≡ Ok r
 fits r low =
     let yes : nat_le (length (text (packet.Response r))) packet_limit ≡ true = grind (arith, nat_tests) in
-    ap (λ (b : Bool). cond b (ok_of r) (Err 206)) yes
+    ap (λ (b : Bool). cond b (ok_of r) (Err ErrorEvaluatingCode)) yes
 
-passes : (r : Response) → packet_limit < length (text (packet.Response r)) → within_limit r ≡ Err 206
+passes : (r : Response) → packet_limit < length (text (packet.Response r)) → within_limit r ≡ Err ErrorEvaluatingCode
 passes r high =
     let no : nat_le (length (text (packet.Response r))) packet_limit ≡ false = grind (arith, nat_tests) in
-    ap (λ (b : Bool). cond b (ok_of r) (Err 206)) no
+    ap (λ (b : Bool). cond b (ok_of r) (Err ErrorEvaluatingCode)) no
 
 module _ (features : Features) (command id : Text) (value : Value) (room : ℕ)
     (whole : room + around command id ≡ packet_limit) where
@@ -91,11 +93,11 @@ module _ (features : Features) (command id : Text) (value : Value) (room : ℕ)
   filled q = success command id (body.Properties (q ∷ []))
 
   -- what is refused for want of room is refused
-  pub refused_is : (code : ℕ) → limited_shown (data_of value) (paging features) room ≡ Err code
-      → Finds {A = Response} (Err (Code 206)) (within_limit (value_response features command id value))
+  pub refused_is : (code : ErrorCode) → limited_shown (data_of value) (paging features) room ≡ Err code
+      → Finds {A = Response} (Err (Code ErrorEvaluatingCode)) (within_limit (value_response features command id value))
   refused_is code e = by (nat_le (property_size made) room) refl e where
-    by : (b : Bool) → nat_le (property_size made) room ≡ b → cond b (ok_of made) (Err 300) ≡ Err code
-        → within_limit (value_response features command id value) ≡ Err 206
+    by : (b : Bool) → nat_le (property_size made) room ≡ b → cond b (ok_of made) (Err CannotGetProperty) ≡ Err code
+        → within_limit (value_response features command id value) ≡ Err ErrorEvaluatingCode
     by true t h = absurd cc
     by false t h =
         let long = leb-false (property_size made) room t in
@@ -114,7 +116,7 @@ module _ (features : Features) (command id : Text) (value : Value) (room : ℕ)
     told (Err (Code code)) same short is = absurd is
     told (Err Memory) same short is = tt
 
-    by : (b : Bool) → nat_le (property_size made) room ≡ b → cond b (ok_of made) (Err 300) ≡ Ok q
+    by : (b : Bool) → nat_le (property_size made) room ≡ b → cond b (ok_of made) (Err CannotGetProperty) ≡ Ok q
         → Finds result (within_limit (value_response features command id value))
     by true t h = let same : made ≡ q = cc in told result same (leb-true (property_size made) room t) gives
     by false t h = absurd cc

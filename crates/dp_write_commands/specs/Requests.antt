@@ -6,8 +6,8 @@ use Rattle.std.specs.Option.{option_map_or}
 use Rattle.std.specs.Str.{bytes_eq}
 use Rattle.dp_command.specs.declared.command.PropertyPlace.{PropertyPlace}
 use Rattle.dp_command.specs.declared.command.PropertySet.{PropertySet}
-use Rattle.dp_command.specs.declared.command.Request.{Request}
-use Rattle.dp_command.specs.declared.command.Request.TheVariants as request
+use Rattle.dp_command.specs.declared.command.WriteRequest.{WriteRequest}
+use Rattle.dp_command.specs.declared.command.WriteRequest.TheVariants as request
 use Rattle.dp_meaning.specs.declared.writes.Write.{Write}
 use Rattle.dp_meaning.specs.declared.writes.Write.TheVariants as write
 use Rattle.dp_parse.specs.ExpressionIn.{expression_in}
@@ -18,6 +18,8 @@ use Rattle.dp_tree.specs.declared.tree.Expression.{Expression}
 use Rattle.dp_value.specs.declared.value.Value.{Value}
 use Rattle.dp_value.specs.declared.value.Value.TheVariants as variant
 use Rattle.dp_value.specs.IntText.{int_of_text}
+use Rattle.dp_packet.specs.declared.error_codes.ErrorCode.{ErrorCode}
+use Rattle.dp_packet.specs.declared.error_codes.ErrorCode.TheVariants.{InvalidOptions, ErrorEvaluatingCode, CannotGetProperty}
 use Rattle.dp_view.specs.Answers.{and_then}
 use Rattle.dp_view.specs.Named.{named_path}
 use Rattle.dp_wire.specs.Frames.{command_limit}
@@ -60,12 +62,12 @@ requested_value set =
 -- ---- places
 
 -- a path whose variable a program may name: to no other one anything is written
-abbrev pub unreserved : Path → Result Path ℕ
-unreserved path = if is_superglobal path.name then Err 300 else Ok path
+abbrev pub unreserved : Path → Result Path ErrorCode
+unreserved path = if is_superglobal path.name then Err CannotGetProperty else Ok path
 
--- the path that is to be written: 301 where there is no such level, 302 where there is no such
--- context, 300 where the name is none or is reserved
-abbrev pub requested_path : State → PropertyPlace → Result Path ℕ
+-- the path that is to be written, where there are its level and its context, and the name is one
+-- and not reserved
+abbrev pub requested_path : State → PropertyPlace → Result Path ErrorCode
 requested_path s place = and_then unreserved (named_path s place.level place.context place.name)
 
 abbrev pub write_at : PropertyPlace → Value → Path → Write
@@ -73,24 +75,23 @@ write_at place value path = write.Place place.level place.context path value
 
 -- ---- writes
 
--- the write of a property: 3 where there is no such value, then the codes of its path
-abbrev pub property_write : State → PropertySet → Result Write ℕ
+-- the write of a property: where there is such a value, then where there is its path
+abbrev pub property_write : State → PropertySet → Result Write ErrorCode
 property_write s set =
     and_then
     (λ value. and_then (λ path. Ok (write_at set.place value path)) (requested_path s set.place))
-    (ok_or (requested_value set) 3)
+    (ok_or (requested_value set) InvalidOptions)
 
 -- the tree of a text that is an expression; no command has one that is longer
 abbrev pub tree_of : List ℕ → Option Expression
 tree_of text = if nat_le (length text) command_limit then expression_in text else None
 
--- the write of an evaluation: 206 where the text is no expression
-abbrev pub evaluation_write : List ℕ → Result Write ℕ
-evaluation_write text = ok_or (option_map (λ e. write.Evaluate e) (tree_of text)) 206
+-- the write of an evaluation, where the text is an expression
+abbrev pub evaluation_write : List ℕ → Result Write ErrorCode
+evaluation_write text = ok_or
+    (option_map (λ e. write.Evaluate e) (tree_of text)) ErrorEvaluatingCode
 
--- the write that a command asks for in a state, or the code of its refusal; another command asks
--- for none and is not known here
-unfoldable pub requested_write : State → Request → Result Write ℕ
+-- the write that a command asks for in a state, or the code of its refusal
+unfoldable pub requested_write : State → WriteRequest → Result Write ErrorCode
 requested_write s (request.PropertySet set) = property_write s set
 requested_write s (request.Eval text) = evaluation_write text
-requested_write s other = Err 4

@@ -3,20 +3,20 @@
 ghost use Rattle.std.specs.Prelude.{◌≡◌, Ok, Err, Some, IfOk, IfSome};
 ghost use Rattle.dp_write_commands.specs.Requests.{requested_path as path_of_request, tree_of as spec_tree};
 ghost use Rattle.dp_write_commands.specs.Requests.{requested_value as value_of_request};
-ghost use Rattle.dp_command.specs.declared.command.Request.TheVariants as request;
+ghost use Rattle.dp_command.specs.declared.command.WriteRequest.TheVariants as request;
 ghost use Rattle.dp_meaning.specs.declared.writes.Write.TheVariants as write;
 ghost use Rattle.dp_view.specs.Named.{named_path};
-ghost use Rattle.dp_write_commands.specs.Results.{Answers, HasKnownCode, IsSent, refusal_at_once};
+ghost use Rattle.dp_write_commands.specs.Results.{Answers, IsSent, refusal_at_once};
 ghost use Rattle.dp_write_commands.specs.Responses.{code_in};
 ghost use Rattle.dp_write_commands.specs.inner.Writes.{Makes, kept_by, value_of_given, with_response, with_write};
 
 use crate::places::put;
 use crate::requests::{Given, given_in, requested_path, tree_of, value_of};
 use crate::responses::{evaluation_response, success};
-use dp_command::{Addressee, PropertySet, Request};
+use dp_command::{Addressee, PropertySet, WriteRequest};
 use dp_features::Features;
 use dp_meaning::{Write, evaluation};
-use dp_packet::{Body, Response};
+use dp_packet::{Body, ErrorCode, Response};
 use dp_state::{Path, State};
 use dp_tree::{Bundle, Expression};
 use dp_value::Value;
@@ -201,7 +201,7 @@ fn write_property(
 {
     match given_in(set) {
         Some(given) => place_property(alloc, bundle, features, state, to, set, given),
-        None => Err(ViewError::Code(3)),
+        None => Err(ViewError::Code(ErrorCode::InvalidOptions)),
     }
 }
 
@@ -249,17 +249,16 @@ fn make_write(
     features: &Features,
     state: &mut State,
     to: &Addressee,
-    request: &Request,
+    request: &WriteRequest,
 ) -> Result<Written, ViewError>
     ensures answer { Answers bundle.now features.now state.old state.new to.now.command to.now.id request.now result }
     ensures at_once { IfSome (refusal_at_once state.old request.now) (λ code. result ≡ Err (ViewError.Code code)) }
 {
     match request {
-        Request::PropertySet(set) => write_property(alloc, bundle, features, state, to, set),
-        Request::Eval { expression } => {
+        WriteRequest::PropertySet(set) => write_property(alloc, bundle, features, state, to, set),
+        WriteRequest::Eval { expression } => {
             write_evaluation(alloc, bundle, features, state, to, expression.as_slice())
         }
-        _ => Err(ViewError::Code(4)),
     }
 }
 
@@ -268,20 +267,19 @@ fn make_write(
 ///
 /// The codes, in their order: of property_set 3 where there is no such value, 301, 302, and 300 where the name is none,
 /// is `$this` or `$GLOBALS`, or the place cannot hold the value; of eval 206 where the text is no expression, where it
-/// does not hold, or where the text of the response would pass 16,777,216 bytes. Another command has 4.
+/// does not hold, or where the text of the response would pass 16,777,216 bytes.
 pub fn write_response(
     alloc: Global,
     bundle: &Bundle,
     features: &Features,
     state: &mut State,
     to: &Addressee,
-    request: &Request,
+    request: &WriteRequest,
 ) -> Result<Written, ViewError>
     ensures answer { Answers bundle.now features.now state.old state.new to.now.command to.now.id request.now result }
     // These refusals are reported whatever memory there is.
     ensures at_once { IfSome (refusal_at_once state.old request.now) (λ code. result ≡ Err (ViewError.Code code)) }
     ensures is_sent { IfOk result (λ made. IsSent made.response) }
-    ensures known { HasKnownCode result }
 {
     make_write(alloc, bundle, features, state, to, request)
 }

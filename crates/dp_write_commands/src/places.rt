@@ -6,6 +6,7 @@ ghost use Rattle.dp_state.specs.Places.{assigned, given_keys as all_given};
 ghost use Rattle.dp_write_commands.specs.inner.Writes.{Puts};
 
 use dp_actions::given_keys;
+use dp_packet::ErrorCode;
 use dp_shared::Shared;
 use dp_state::{Fault, Path, State};
 use dp_value::{Key, Memory, Value};
@@ -26,7 +27,7 @@ fn put_keyed(
     let value = Shared::of(value.try_clone()?);
     match state.assign(level, &path.name, keys, false, value) {
         Ok(()) => Ok(()),
-        Err(Fault::Fatal(_)) => Err(ViewError::Code(300)),
+        Err(Fault::Fatal(_)) => Err(ViewError::Code(ErrorCode::CannotGetProperty)),
         Err(Fault::Memory) => Err(ViewError::Memory),
     }
 }
@@ -60,7 +61,7 @@ pub(crate) fn put(
 {
     let depth = state.frames.len();
     if level as usize >= depth {
-        return Err(ViewError::Code(301));
+        return Err(ViewError::Code(ErrorCode::StackDepthInvalid));
     }
     if context == 0 {
         return put_at(alloc, state, level as usize, path, value);
@@ -68,5 +69,5 @@ pub(crate) fn put(
     if context == 1 {
         return put_at(alloc, state, depth - 1, path, value);
     }
-    Err(ViewError::Code(300))
+    Err(ViewError::Code(ErrorCode::CannotGetProperty))
 }

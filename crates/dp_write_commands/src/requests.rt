@@ -7,6 +7,7 @@ ghost use Rattle.dp_write_commands.specs.Requests as spec;
 ghost use Rattle.dp_write_commands.specs.inner.Writes.{Finds, IsTree, error_of, value_of_given};
 
 use dp_command::{PropertyPlace, PropertySet};
+use dp_packet::ErrorCode;
 use dp_parse::{ParseError, parse_expression};
 use dp_state::{Path, State};
 use dp_token_rules::is_superglobal;
@@ -118,7 +119,7 @@ fn unreserved(path: Path) -> Result<Path, ViewError>
     ensures { Finds result (spec.unreserved path) }
 {
     if is_superglobal(path.name.as_slice()) {
-        Err(ViewError::Code(300))
+        Err(ViewError::Code(ErrorCode::CannotGetProperty))
     } else {
         Ok(path)
     }
@@ -147,7 +148,7 @@ fn no_expression(why: ParseError) -> ViewError
 {
     match why {
         ParseError::Memory => ViewError::Memory,
-        _ => ViewError::Code(206),
+        _ => ViewError::Code(ErrorCode::ErrorEvaluatingCode),
     }
 }
 
@@ -156,7 +157,7 @@ pub(crate) fn tree_of(alloc: Global, text: &[u8]) -> Result<Expression, ViewErro
     ensures { IsTree text.now result }
 {
     if text.len() > COMMAND_LIMIT {
-        return Err(ViewError::Code(206));
+        return Err(ViewError::Code(ErrorCode::ErrorEvaluatingCode));
     }
     match parse_expression(alloc, text) {
         Ok(e) => Ok(e),

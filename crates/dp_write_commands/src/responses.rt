@@ -10,7 +10,7 @@ ghost use Rattle.dp_write_commands.specs.inner.Writes.{Finds, around};
 
 use dp_command::Addressee;
 use dp_features::Features;
-use dp_packet::{Body, Property, Response, put_attribute, short_size};
+use dp_packet::{Body, ErrorCode, Property, Response, put_attribute, short_size};
 use dp_value::{Bytes, Items, Memory, Value};
 use dp_view::{Paging, ViewError};
 use dp_view_limits::limited_shown;
@@ -98,7 +98,7 @@ fn value_response(
 {
     match limited_shown(alloc, value, &paging(features), room(to)) {
         Ok(made) => showing(alloc, to, made),
-        Err(ViewError::Code(_)) => Err(ViewError::Code(206)),
+        Err(ViewError::Code(_)) => Err(ViewError::Code(ErrorCode::ErrorEvaluatingCode)),
         Err(ViewError::Memory) => Err(ViewError::Memory),
     }
 }
@@ -114,6 +114,6 @@ pub(crate) fn evaluation_response(
 {
     match value {
         Some(value) => value_response(alloc, features, to, value),
-        None => Err(ViewError::Code(206)),
+        None => Err(ViewError::Code(ErrorCode::ErrorEvaluatingCode)),
     }
 }

@@ -7,17 +7,18 @@ use Rattle.dp_tree.specs.Purity.{is_pure}
 use Rattle.dp_break.specs.declared.errors.BreakError.{BreakError}
 use Rattle.dp_break.specs.declared.errors.BreakError.TheVariants as error
 use Rattle.dp_break.specs.Conditions.{has_no_tree, is_too_long}
+use Rattle.dp_packet.specs.declared.error_codes.ErrorCode.TheVariants.{InvalidExpression}
 
--- 207, or out of memory, which does not come where it is too long
+-- it is refused, or out of memory, which does not come where it is too long
 abbrev pub IsNoTree : Option (List ℕ) → BreakError → Type 0
-IsNoTree expression (error.Code code) = (code ≡ 207) × (has_no_tree expression ≡ true)
+IsNoTree expression (error.Code code) = (code ≡ InvalidExpression) × (has_no_tree expression ≡ true)
 IsNoTree expression error.Memory = is_too_long expression ≡ false
 
--- 207 where a text is no expression, unless memory runs out
+-- a refusal where a text is no expression, unless memory runs out
 abbrev pub error_of : ParseError → BreakError
 error_of parse_error.Memory = error.Memory
-error_of why = error.Code 207
+error_of why = error.Code InvalidExpression
 
--- 207 where an expression may change something
+-- a refusal where an expression may change something
 abbrev pub pure_or_refused : Expression → Result Expression BreakError
-pure_or_refused e = if is_pure e then Ok e else Err (error.Code 207)
+pure_or_refused e = if is_pure e then Ok e else Err (error.Code InvalidExpression)

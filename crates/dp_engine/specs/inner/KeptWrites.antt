@@ -1,6 +1,6 @@
 -- What becomes of the writes that are kept where a command asks for one.
 use Rattle.std.specs.Prelude.{◌≡◌, ℕ, List, [], ◌∷◌, ◌++◌, Result, Ok, Err}
-use Rattle.dp_command.specs.declared.command.Request.{Request}
+use Rattle.dp_command.specs.declared.command.WriteRequest.{WriteRequest}
 use Rattle.dp_features.specs.Features.{Features}
 use Rattle.dp_meaning.specs.declared.writes.NumberedWrite.{NumberedWrite}
 use Rattle.dp_meaning.specs.declared.writes.Write.{Write}
@@ -20,7 +20,7 @@ with_one moment w writes = writes ++ (record { moment = moment; write = w }) ∷
 
 -- the write was made and is kept, and this is its response
 pub record IsKeptWrite (bundle : Bundle) (features : Features) (before after : State)
-    (writes kept : List NumberedWrite) (moment : ℕ) (command id : Text) (asked : Request)
+    (writes kept : List NumberedWrite) (moment : ℕ) (command id : Text) (asked : WriteRequest)
     (response : Response) : Type 0 where
   pub write : Write
   pub asks : requested_write before asked ≡ Ok write
@@ -30,7 +30,7 @@ pub record IsKeptWrite (bundle : Bundle) (features : Features) (before after : S
 
 -- else nothing has changed
 abbrev pub Accepts : Bundle → Features → State → State → List NumberedWrite → List NumberedWrite → ℕ
-    → Text → Text → Request → Result Response ViewError → Type 0
+    → Text → Text → WriteRequest → Result Response ViewError → Type 0
 Accepts bundle features before after writes kept moment command id asked (Ok response) =
     IsKeptWrite bundle features before after writes kept moment command id asked response
 Accepts bundle features before after writes kept moment command id asked (Err (Code code)) =

@@ -6,7 +6,7 @@ use Rattle.dp_command.specs.declared.command.StreamMode.{StreamMode}
 use Rattle.dp_features.specs.Features.{Features}
 use Rattle.dp_meaning.specs.declared.writes.NumberedWrite.{NumberedWrite}
 use Rattle.dp_meaning.specs.Trace.{moment_at, outcome, program_trace}
-use Rattle.dp_continuation.specs.Stops.{depth_of}
+use Rattle.dp_engine.specs.Stops.{depth_of}
 use Rattle.dp_step.specs.declared.machine.Machine.{Machine}
 use Rattle.dp_step.specs.Stands.{StandsFor}
 use Rattle.dp_engine.specs.declared.session.SessionEnd.{SessionEnd}

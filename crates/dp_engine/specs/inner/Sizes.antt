@@ -3,7 +3,9 @@ use Rattle.std.specs.Prelude.{◌≤◌, length, Option, Some, None}
 use Rattle.std.specs.List.{AllByRecursion}
 use Rattle.dp_command.specs.Grammar.{command_name_limit}
 use Rattle.dp_command.specs.declared.command.Request.{Request}
-use Rattle.dp_command.specs.declared.command.Request.TheVariants.{FeatureGet, FeatureSet}
+use Rattle.dp_command.specs.declared.command.Request.TheVariants.{Session}
+use Rattle.dp_command.specs.declared.command.SessionRequest.{SessionRequest}
+use Rattle.dp_command.specs.declared.command.SessionRequest.TheVariants.{FeatureGet, FeatureSet}
 use Rattle.dp_command.specs.declared.line.Line.{Line}
 use Rattle.dp_packet.specs.declared.packet.Packet.TheVariants as packet
 use Rattle.dp_packet.specs.declared.packet.Response.{Response}
@@ -21,10 +23,14 @@ IsShortLine None = Unit {0}
 IsShortLine (Some line) = IsShort line
 
 -- the names that a request holds and its response repeats
+abbrev pub AreShortNames : SessionRequest → Type 0
+AreShortNames (FeatureGet name) = length name ≤ command_limit
+AreShortNames (FeatureSet name value) = length name ≤ command_limit
+AreShortNames other = Unit {0}
+
 abbrev pub IsShortRequest : Request → Type 0
-IsShortRequest (FeatureGet name) = length name ≤ command_limit
-IsShortRequest (FeatureSet name value) = length name ≤ command_limit
-IsShortRequest request = Unit {0}
+IsShortRequest (Session r) = AreShortNames r
+IsShortRequest other = Unit {0}
 
 -- a packet can be made of it
 pub record Fits (r : Response) : Type 0 where

@@ -6,10 +6,12 @@ use Rattle.dp_command.specs.declared.errors.CommandError.TheVariants.{Code, Memo
 use Rattle.dp_command.specs.declared.command.StreamMode.{StreamMode}
 use Rattle.dp_command.specs.declared.line.Line.{Line}
 use Rattle.dp_command.specs.declared.command.Request.{Request}
+use Rattle.dp_command.specs.declared.command.Request.TheVariants.{Write}
 use Rattle.dp_command.specs.Commands.{command_of}
 use Rattle.dp_command.specs.Names.{name_of}
 use Rattle.dp_command.specs.Refusals.{id_of}
 use Rattle.dp_command.specs.Tests.{first_code}
+use Rattle.dp_packet.specs.declared.error_codes.ErrorCode.{ErrorCode}
 use Rattle.dp_packet.specs.declared.packet.Response.{Response}
 use Rattle.dp_packet.specs.Parts.{Text}
 use Rattle.dp_conversation.specs.declared.responder.Answer.{Answer}
@@ -17,6 +19,7 @@ use Rattle.dp_wire.specs.Frames.{IsPacketText}
 use Rattle.dp_engine.specs.declared.session.SessionEnd.{SessionEnd}
 use Rattle.dp_engine.specs.declared.replies.Turn.{Turn as Made}
 use Rattle.dp_engine.specs.declared.states.Phase.{Phase}
+use Rattle.dp_engine.specs.declared.states.Phase.TheVariants.{Break}
 use Rattle.dp_engine.specs.Answers.{Turn, performed, refused, to_ide, to_program}
 use Rattle.dp_engine.specs.Refusals.{of_command, own_tests, refusal_of_line}
 use Rattle.dp_engine.specs.Responses.{response_text}
@@ -42,13 +45,18 @@ pub record IsSent (mode : StreamMode) (written : List ℕ) (made : Made) (sent :
   pub ended : sent.ended ≡ made.ended
 
 -- what a command asks for is done, if it has no refusal of its own
-abbrev pub answered_by : Option ℕ → Text → Text → Request → State → Turn
+abbrev pub answered_by : Option ErrorCode → Text → Text → Request → State → Turn
 answered_by (Some code) command id r state = refused command id code state
 answered_by None command id r state = performed command id r state
 
 abbrev pub answered : Text → Text → Request → State → Turn
 answered command id r state =
     answered_by (first_code (own_tests state command id r)) command id r state
+
+-- a write is asked for in a break alone
+abbrev pub IsTimely : Phase → Request → Type 0
+IsTimely phase (Write r) = phase ≡ Break
+IsTimely phase other = Unit {0}
 
 -- what a line asks for that has at most a refusal of its own, or why it is refused
 abbrev pub ReadsCommand : State → Line → Result Command CommandError → Type 0

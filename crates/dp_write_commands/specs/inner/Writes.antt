@@ -5,6 +5,8 @@ use Rattle.dp_meaning.specs.declared.writes.Write.{Write}
 use Rattle.dp_meaning.specs.declared.writes.WriteFault.{WriteFault}
 use Rattle.dp_meaning.specs.declared.writes.WriteFault.TheVariants.{NoFrame, NoPlace}
 use Rattle.dp_meaning.specs.Writes.{evaluation_setting, one_write}
+use Rattle.dp_packet.specs.declared.error_codes.ErrorCode.{ErrorCode}
+use Rattle.dp_packet.specs.declared.error_codes.ErrorCode.TheVariants.{ErrorEvaluatingCode, CannotGetProperty, StackDepthInvalid}
 use Rattle.dp_packet.specs.declared.packet.Body.TheVariants as body
 use Rattle.dp_packet.specs.declared.packet.Packet.TheVariants as packet
 use Rattle.dp_packet.specs.declared.packet.Response.{Response}
@@ -38,14 +40,14 @@ around command id =
 -- the tree of a text, or why there is none
 abbrev pub IsTree : List ℕ → Result Expression ViewError → Type 0
 IsTree text (Ok e) = tree_of text ≡ Some e
-IsTree text (Err (Code code)) = (code ≡ 206) × (tree_of text ≡ None)
+IsTree text (Err (Code code)) = (code ≡ ErrorEvaluatingCode) × (tree_of text ≡ None)
 IsTree text (Err Memory) = Unit {0}
 
 -- what a write of a place leaves, or the code of a refusal
-abbrev pub coded : Result State WriteFault → Result State ℕ
+abbrev pub coded : Result State WriteFault → Result State ErrorCode
 coded (Ok s) = Ok s
-coded (Err NoFrame) = Err 301
-coded (Err NoPlace) = Err 300
+coded (Err NoFrame) = Err StackDepthInvalid
+coded (Err NoPlace) = Err CannotGetProperty
 
 -- a place was given a value; else nothing has changed
 abbrev pub Puts : Result State WriteFault → State → State → Result ⊤ ViewError → Type 0
@@ -56,7 +58,7 @@ Puts asked before after (Err Memory) = after ≡ before
 -- 206 where a text is no expression, unless memory runs out
 abbrev pub error_of : ParseError → ViewError
 error_of parse_error.Memory = Memory
-error_of why = Code 206
+error_of why = Code ErrorEvaluatingCode
 
 -- a response where what it tells was done
 abbrev pub with_response : Response → Result ⊤ ViewError → Result Response ViewError
@@ -84,7 +86,7 @@ Makes bundle features before after command id w (Err (Code code)) =
 Makes bundle features before after command id w (Err Memory) = after ≡ before
 
 -- what is asked for, or the code of a refusal, or out of memory
-abbrev pub Finds : {A : Type 0} → Result A ViewError → Result A ℕ → Type 0
+abbrev pub Finds : {A : Type 0} → Result A ViewError → Result A ErrorCode → Type 0
 Finds (Ok a) asked = asked ≡ Ok a
 Finds (Err (Code code)) asked = asked ≡ Err code
 Finds (Err Memory) asked = Unit {0}

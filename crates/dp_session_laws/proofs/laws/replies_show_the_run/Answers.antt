@@ -6,4 +6,5 @@ pub returns-clause-stands : goal.returns-clause-stands
 returns-clause-stands c = λ bundle bound bytes. law.stands bundle bound bytes
 
 pub returns-clause-shown : goal.returns-clause-shown
-returns-clause-shown c = λ state bytes line command taken side. shows_program state bytes line command taken side
+returns-clause-shown c = λ state bytes line command asked taken is.
+    shows_program state bytes line command taken asked is

@@ -1,5 +1,5 @@
 use Rattle.std.proofs.Common.{subst, sym}
-use Rattle.dp_command.specs.declared.command.Request.TheVariants.{Eval}
+use Rattle.dp_command.specs.declared.command.WriteRequest.TheVariants.{Eval}
 use Rattle.dp_meaning.specs.declared.writes.Write.TheVariants.{Evaluate}
 use Rattle.dp_write_commands.specs.Results.{Answers}
 use Rattle.dp_write_commands.proofs.RequestedWrites.{evaluation_is, tried}

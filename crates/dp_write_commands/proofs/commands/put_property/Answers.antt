@@ -1,5 +1,5 @@
 use Rattle.std.proofs.Common.{subst, sym}
-use Rattle.dp_command.specs.declared.command.Request.TheVariants.{PropertySet}
+use Rattle.dp_command.specs.declared.command.WriteRequest.TheVariants.{PropertySet}
 use Rattle.dp_write_commands.specs.Results.{Answers}
 use Rattle.dp_write_commands.specs.Requests.{write_at}
 use Rattle.dp_write_commands.proofs.RequestedWrites.{property_is, tried}

@@ -1,5 +1,6 @@
 use Rattle.std.proofs.Common.{◌≡◌, refl, sym}
 use Rattle.std.specs.Prelude.{Err}
+use Rattle.dp_packet.specs.declared.error_codes.ErrorCode.TheVariants.{InvalidOptions}
 use Rattle.dp_view.specs.declared.errors.ViewError.TheVariants.{Code}
 use Rattle.dp_write_commands.specs.inner.Writes.{value_of_given}
 use Rattle.dp_write_commands.proofs.RequestedWrites.{refused, unvalued, unvalued_at_once, valued_at_once}
@@ -18,5 +19,5 @@ returns-in-None-clause-answer c =
 
 pub returns-in-None-clause-at_once : goal.returns-in-None-clause-at_once
 returns-in-None-clause-at_once c =
-    unvalued_at_once c.args.state.now c.args.set.now (λ code. refused (Code 3) ≡ Err (Code code))
+    unvalued_at_once c.args.state.now c.args.set.now (λ code. refused (Code InvalidOptions) ≡ Err (Code code))
     (sym c.in-None.ensures) refl

@@ -9,13 +9,14 @@ use Rattle.dp_break.specs.Tables.{IsTable, Table}
 use Rattle.dp_break.proofs.TableLaws.{table}
 use Rattle.dp_break.proofs.Updates.{change_answer, change_left, change_table, changed_sound, missing_answer, sound_here}
 use Rattle.dp_break.proofs.breaks.Breaks.update.Goals as goal
+use Rattle.dp_packet.specs.declared.error_codes.ErrorCode.TheVariants.{NoSuchBreakpoint}
 
 pub returns-in-None-clause-answer : goal.returns-in-None-clause-answer
 returns-in-None-clause-answer c =
     let held = c.self.inside.held.items in
     let none = sym (c.place_of.ensures
     ∙ ap (λ (l : List Breakpoint). position (λ b. b.id == c.args.id) l) c.as_slice.ensures.value) ∙ c.in-None.is in
-    subst (λ (t : Table). Err (error.Code 205) ≡ answer_of (update_refusal c.args.bundle.now c.args.change
+    subst (λ (t : Table). Err (error.Code NoSuchBreakpoint) ≡ answer_of (update_refusal c.args.bundle.now c.args.change
     (held_as t.held c.args.id))) c.self.view_is
     (missing_answer c.args.id held c.self.inside.next c.args.bundle.now c.args.change none)
 

@@ -1,6 +1,4 @@
-use Rattle.std.proofs.Common.{rules, ◌≡◌, Some, ap, sym, ◌∙◌}
-use Rattle.dp_breakpoint_commands.specs.Commands.{breakpoint_refusal}
-use Rattle.dp_breakpoint_commands.proofs.Codes.{refusal_known}
+use Rattle.std.proofs.Common.{ap, sym, ◌∙◌}
 use Rattle.dp_engine.specs.Session.{program_of}
 use Rattle.dp_engine.specs.inner.Position.{known}
 use Rattle.dp_engine.proofs.TurnLaws.{breakpoints_turn, fits_known}
@@ -11,20 +9,13 @@ tell-requires c =
     fits_known c.in-Ok-answer_breakpoints.response c.in-Ok-answer_breakpoints.ensures.known
     c.in-Ok-answer_breakpoints.ensures.short
 
-pub refuse-requires : goal.refuse-requires
-refuse-requires c =
-    let s = c.self.inside in
-    let refused : breakpoint_refusal s.bundle.now c.file-file.result s.breaks c.args.request ≡ Some c.in-Err-Code.code =
-    search rules in
-    refusal_known s.bundle.now c.file-file.result s.breaks c.args.request c.in-Err-Code.code refused
-
 pub returns-in-Ok-answer_breakpoints-clause-turn : goal.returns-in-Ok-answer_breakpoints-clause-turn
 returns-in-Ok-answer_breakpoints-clause-turn c =
     let s = c.self.inside in
     rw (← c.self.view_is) (breakpoints_turn (known s.bundle.now s.bound s.writes.items s.moment s.position
     s.features s.stdout s.breaks) c.in-Ok.program.now c.file-file.result c.answer_breakpoints.new.breaks
     c.args.to.now.command c.args.to.now.id c.args.request c.in-Ok-answer_breakpoints.response c.tell.result
-    (c.in-Ok.ensures.state ∙ ap program_of (sym c.self.view_is)) c.file-file.ensures c.requires
+    (c.in-Ok.ensures.state ∙ ap program_of (sym c.self.view_is)) c.file-file.ensures
     c.in-Ok-answer_breakpoints.ensures.accepted
     c.in-Ok-answer_breakpoints.ensures.response c.in-Ok-answer_breakpoints.ensures.short
     c.in-Ok-answer_breakpoints.ensures.table c.tell.ensures)

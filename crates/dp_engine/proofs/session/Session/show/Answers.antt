@@ -1,4 +1,5 @@
 use Rattle.std.proofs.Common.{rules, ◌≡◌, Err, ap, refl, sym, ◌∙◌}
+use Rattle.dp_command.specs.declared.command.Request.TheVariants.{Look}
 use Rattle.dp_view_commands.specs.Views.{view_response}
 use Rattle.dp_engine.specs.Session.{program_of}
 use Rattle.dp_engine.specs.inner.Position.{known}
@@ -16,7 +17,7 @@ returns-in-Ok c =
     let id = c.args.to.now.id in
     let is = view_is state c.in_ok-program.program.now c.file.result command id c.args.request.now
     (c.in_ok-program.ensures.state ∙ ap program_of (sym c.self.view_is)) c.file.ensures in
-    rw (← c.self.view_is) (view_responds state command id c.args.request.now c.in-Ok.response c.tell.result c.requires
+    rw (← c.self.view_is) (view_responds state command id c.args.request.now c.in-Ok.response c.tell.result
     (is ∙ c.in-Ok.ensures.answer) c.tell.ensures)
 
 pub returns-in-Err-Code : goal.returns-in-Err-Code
@@ -30,5 +31,5 @@ returns-in-Err-Code c =
     (c.in_ok-program.ensures.state ∙ ap program_of (sym c.self.view_is)) c.file.ensures in
     let answer : view_response s.bundle.now c.file.result s.features c.in_ok-program.program.now command id request ≡
     Err c.in-Err-Code.code = search rules in
-    rw (← c.self.view_is) (own_refused state state command id request c.in-Err-Code.code c.refuse.result
-    (view_refused state command id request c.in-Err-Code.code c.requires (is ∙ answer)) refl c.refuse.ensures)
+    rw (← c.self.view_is) (own_refused state state command id (Look request) c.in-Err-Code.code c.refuse.result
+    (view_refused state command id request c.in-Err-Code.code (is ∙ answer)) refl c.refuse.ensures)

@@ -1,5 +1,5 @@
-use Rattle.std.proofs.Common.{Some, ap, sym, ◌∙◌}
-use Rattle.dp_engine.proofs.ResponseSizes.{command_short, refusal_is_code}
+use Rattle.std.proofs.Common.{ap, sym, ◌∙◌}
+use Rattle.dp_engine.proofs.ResponseSizes.{command_short}
 use Rattle.dp_engine.proofs.TurnLaws.{turn_accepted, turn_refused, writes_in_break}
 use Rattle.dp_engine.proofs.session.Session.turn_on.Goals as goal
 
@@ -9,16 +9,10 @@ perform-requires-clause-short g c =
     (sym (c.phase.ensures ∙ ap (λ k. k.phase) c.self.view_is))) in
     command_short c.args.line.now c.in-Ok.command c.requires asks.1
 
-pub perform-requires-clause-writes : goal.perform-requires-clause-writes
-perform-requires-clause-writes g c =
+pub perform-requires-clause-timely : goal.perform-requires-clause-timely
+perform-requires-clause-timely g c =
     writes_in_break c.args.self.now c.args.line.now c.in-Ok.command
     (rw c.in-Ok.is at (c.read_command.ensures c.args.self.now
-    (sym (c.phase.ensures ∙ ap (λ k. k.phase) c.self.view_is))))
-
-pub refuse-requires : goal.refuse-requires
-refuse-requires g c =
-    refusal_is_code c.args.self.now (Some c.args.line.now) c.in-Err-Code.code
-    (rw (c.in-Err-Code.is, c.in-Err-Code.field-0-is) at (c.read_command.ensures c.args.self.now
     (sym (c.phase.ensures ∙ ap (λ k. k.phase) c.self.view_is))))
 
 pub returns-in-Ok-clause-turn : goal.returns-in-Ok-clause-turn

@@ -1,4 +1,5 @@
 use Rattle.std.proofs.Common.{rules, ◌≡◌, Err, ap, subst, ◌∙◌}
+use Rattle.dp_command.specs.declared.command.Request.TheVariants.{Write}
 use Rattle.dp_state.specs.declared.state.State.{State}
 use Rattle.dp_write_commands.specs.Responses.{write_response}
 use Rattle.dp_engine.specs.inner.KeptWrites.{IsKeptWrite}
@@ -13,7 +14,7 @@ tell-requires c = let sent = c.in-Ok.ensures.is_sent in fits_known c.in-Ok.respo
 pub invariant_of-self : goal.invariant_of-self
 invariant_of-self c =
     let s = c.self.inside in
-    let at = ap (λ k. k.phase) c.self.view_is ∙ c.requires.is_break in
+    let at = ap (λ k. k.phase) c.self.view_is ∙ c.requires in
     let after = c.accept-made.new.program in
     let kept = c.accept-made.new.writes.items in
     let command = c.args.to.now.command in
@@ -35,7 +36,7 @@ returns-in-Ok-clause-turn c =
     s.failed c.if-self.false c.self.invariant.0 in
     rw (← c.self.view_is) (write_turn s.bundle.now s.bound s.writes.items s.moment s.position s.features s.stdout
     s.breaks s.machine c.accept-made.new.program c.accept-made.new.writes.items
-    c.args.to.now.command c.args.to.now.id c.args.request.now c.in-Ok.response c.tell.result same c.requires.side
+    c.args.to.now.command c.args.to.now.id c.args.request.now c.in-Ok.response c.tell.result same
     (subst (λ (p : State). IsKeptWrite s.bundle.now s.features p c.accept-made.new.program s.writes.items
     c.accept-made.new.writes.items s.moment c.args.to.now.command c.args.to.now.id
     c.args.request.now c.in-Ok.response) c.state_mut.ensures.state c.in-Ok.ensures.answer) c.tell.ensures)
@@ -54,14 +55,14 @@ returns-in-Err-Code-clause-turn c =
     s.failed c.if-self.false c.self.invariant.0 in
     rw (← c.self.view_is) (own_refused (known s.bundle.now s.bound s.writes.items s.moment s.position s.features
     s.stdout s.breaks)
-    (known s.bundle.now s.bound kept s.moment s.position s.features s.stdout s.breaks) command id request code
+    (known s.bundle.now s.bound kept s.moment s.position s.features s.stdout s.breaks) command id (Write request) code
     c.refuse.result
     (write_is_refused s.bundle.now s.bound s.writes.items s.moment s.position s.features s.stdout s.breaks s.machine
-    command id request code is c.requires.side told)
+    command id request code is told)
     (ap (λ l. known s.bundle.now s.bound l s.moment s.position s.features s.stdout s.breaks) same) c.refuse.ensures)
 
 pub returns-in-Ok-clause-stays : goal.returns-in-Ok-clause-stays
 returns-in-Ok-clause-stays c =
     let s = c.self.inside in
     rw (← c.self.view_is) (write_stays s.bundle.now s.bound s.writes.items s.moment s.position s.features s.stdout
-    s.breaks s.machine c.accept-made.new.writes.items (ap (λ k. k.phase) c.self.view_is ∙ c.requires.is_break))
+    s.breaks s.machine c.accept-made.new.writes.items (ap (λ k. k.phase) c.self.view_is ∙ c.requires))

@@ -1,6 +1,6 @@
 use Rattle.std.proofs.Common.{refl}
-use Rattle.dp_continuation.proofs.Free.{free-of}
-use Rattle.dp_continuation.proofs.moves.run_free.Goals as goal
+use Rattle.dp_engine.proofs.Free.{free-of}
+use Rattle.dp_engine.proofs.moves.run_free.Goals as goal
 
 pub returns-clause-reached : goal.returns-clause-reached
 returns-clause-reached g c = λ bundle bound writes n stands.

@@ -15,8 +15,8 @@ use Rattle.dp_meaning.specs.declared.writes.NumberedWrite.{NumberedWrite}
 use Rattle.dp_meaning.specs.Trace.{program_trace}
 use Rattle.dp_meaning_laws.proofs.Whole.{end-can}
 use Rattle.dp_step.specs.declared.machine.Machine.{Machine}
-use Rattle.dp_continuation.specs.declared.reached.Reached.{Reached}
-use Rattle.dp_continuation.specs.NextStop.{Reaches, stop_past, table_past}
+use Rattle.dp_engine.specs.declared.reached.Reached.{Reached}
+use Rattle.dp_engine.specs.NextStop.{Reaches, stop_past, table_past}
 
 pub on_ok_always : {T E : Type 0} {P : Type 0} (r : Result T E) → P → OnOk r P
 on_ok_always (Ok a) p = p

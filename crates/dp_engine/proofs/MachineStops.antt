@@ -15,10 +15,10 @@ use Rattle.dp_meaning_laws.proofs.Whole.{end-can, now-can, numbered}
 use Rattle.dp_step.specs.declared.machine.Machine.{Machine}
 use Rattle.dp_step.specs.Stands.{ComesTo, EndsWith, StandsFor}
 use Rattle.dp_step.proofs.LastMoments.{ends-at-last}
-use Rattle.dp_continuation.specs.declared.reached.Reached.TheVariants as reached
-use Rattle.dp_continuation.specs.NextStop.{Reaches, stop_past, table_past}
-use Rattle.dp_continuation.specs.Stops.{depth_of}
-use Rattle.dp_continuation.proofs.Lists.{drop-at, drop-past}
+use Rattle.dp_engine.specs.declared.reached.Reached.TheVariants as reached
+use Rattle.dp_engine.specs.NextStop.{Reaches, stop_past, table_past}
+use Rattle.dp_engine.specs.Stops.{depth_of}
+use Rattle.dp_engine.proofs.Lists.{drop-at, drop-past}
 
 module _ (mode : Moment → Bool) (bundle : Bundle) (bound : ℕ) (writes : List NumberedWrite) where
   abbrev moments : Moments

@@ -1,6 +1,6 @@
 use Rattle.std.proofs.Common.{refl}
-use Rattle.dp_continuation.proofs.MachineStops.{counts-end, counts-moment, ends-of, ends-there, ends-with, passes, reaches, reaches-of, reaches-with}
-use Rattle.dp_continuation.proofs.moves.go_on_watched.Goals as goal
+use Rattle.dp_engine.proofs.MachineStops.{counts-end, counts-moment, ends-of, ends-there, ends-with, passes, reaches, reaches-of, reaches-with}
+use Rattle.dp_engine.proofs.moves.go_on_watched.Goals as goal
 
 pub loop-init : goal.loop-init
 loop-init g c = λ bound writes n stands. record {

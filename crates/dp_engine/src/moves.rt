@@ -2,8 +2,8 @@
 
 ghost use Rattle.std.specs.Prelude.{◌≡◌, ◌+◌, ◌<◌, ◌∷◌, ◌||◌, ℕ, List, [], length, None, true, false, IfOk, OnOk};
 ghost use Rattle.dp_break.specs.StopRule.{held_after, one_stops};
-ghost use Rattle.dp_continuation.specs.NextStop.{Reaches, reached_moment, stop_past, table_past};
-ghost use Rattle.dp_continuation.specs.Stops.{stops};
+ghost use Rattle.dp_engine.specs.NextStop.{Reaches, reached_moment, stop_past, table_past};
+ghost use Rattle.dp_engine.specs.Stops.{stops};
 ghost use Rattle.dp_meaning.specs.declared.writes.NumberedWrite.{NumberedWrite as AnyWrite};
 ghost use Rattle.dp_state.specs.declared.moments.Moment.{Moment as AnyMoment};
 ghost use Rattle.dp_state.specs.States.{IsOf};

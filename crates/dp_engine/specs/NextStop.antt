@@ -10,9 +10,9 @@ use Rattle.dp_meaning.specs.Trace.{moment_at, outcome, program_trace}
 use Rattle.dp_state.specs.declared.moments.Moment.{Moment}
 use Rattle.dp_step.specs.declared.machine.Machine.{Machine}
 use Rattle.dp_step.specs.Stands.{StandsFor}
-use Rattle.dp_continuation.specs.declared.reached.Reached.{Reached}
-use Rattle.dp_continuation.specs.declared.reached.Reached.TheVariants as reached
-use Rattle.dp_continuation.specs.Stops.{depth_of}
+use Rattle.dp_engine.specs.declared.reached.Reached.{Reached}
+use Rattle.dp_engine.specs.declared.reached.Reached.TheVariants as reached
+use Rattle.dp_engine.specs.Stops.{depth_of}
 
 -- the moment past n at which it stops, if it stops
 abbrev pub stop_past : (Moment → Bool) → Bundle → ℕ → List NumberedWrite → List Breakpoint → ℕ

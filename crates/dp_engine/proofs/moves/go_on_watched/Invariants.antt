@@ -1,9 +1,9 @@
 use Rattle.std.proofs.Common.{ℕ, List}
 use Rattle.dp_meaning.specs.declared.writes.NumberedWrite.{NumberedWrite}
 use Rattle.dp_step.specs.Stands.{StandsFor}
-use Rattle.dp_continuation.specs.Stops.{stops}
-use Rattle.dp_continuation.proofs.MachineStops.{IsOnWay}
-use Rattle.dp_continuation.proofs.moves.go_on_watched.Given as goal
+use Rattle.dp_engine.specs.Stops.{stops}
+use Rattle.dp_engine.proofs.MachineStops.{IsOnWay}
+use Rattle.dp_engine.proofs.moves.go_on_watched.Given as goal
 
 abbrev pub invariant-loop : goal.invariant-loop
 invariant-loop g l =

@@ -1,7 +1,7 @@
 //! The moments at which a command that goes on stops.
 
 ghost use Rattle.std.specs.Prelude.{◌≡◌};
-ghost use Rattle.dp_continuation.specs.Stops as spec;
+ghost use Rattle.dp_engine.specs.Stops as spec;
 
 use dp_command::Continuation;
 use dp_state::{Moment, MomentKind};

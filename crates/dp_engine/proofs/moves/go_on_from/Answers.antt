@@ -1,7 +1,7 @@
 use Rattle.std.proofs.lemmas.Result.{IfOk-weaker}
-use Rattle.dp_continuation.specs.Stops.{stops}
-use Rattle.dp_continuation.proofs.Free.{free-reaches, free-table, on_ok_always}
-use Rattle.dp_continuation.proofs.moves.go_on_from.Goals as goal
+use Rattle.dp_engine.specs.Stops.{stops}
+use Rattle.dp_engine.proofs.Free.{free-reaches, free-table, on_ok_always}
+use Rattle.dp_engine.proofs.moves.go_on_from.Goals as goal
 
 pub returns-then-is_free-clause-reached : goal.returns-then-is_free-clause-reached
 returns-then-is_free-clause-reached g c = λ bound writes n stands.

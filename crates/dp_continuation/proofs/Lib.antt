@@ -1,4 +1,0 @@
-pub mod Free
-pub mod Lists
-pub mod MachineStops
-pub mod StopMoments

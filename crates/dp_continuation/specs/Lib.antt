@@ -1,3 +1,0 @@
--- Where a program comes to when it goes on.
-pub mod Stops
-pub mod NextStop
