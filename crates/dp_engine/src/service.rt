@@ -170,7 +170,8 @@ fn close_cut<E: Sink, L: Ledger>(
 ///
 /// `session` and `init` are what `Session::begin` answered together, and nothing was answered since; of another `init`
 /// nothing is said but that no count falls. The program's own output goes to `out`. If the link ends or fails first,
-/// the program runs on to its end, unless a command has killed it. It waits in the calls of the link alone.
+/// the program runs on to its end, unless a command has killed it. The link is ended as soon as the session is over,
+/// before the program runs on. It waits in the calls of the link alone.
 ///
 /// The steps that it takes are counted; no clause says how many these are.
 pub fn serve<S: Source, K: Sink, E: Sink, L: Ledger>(
@@ -197,6 +198,7 @@ pub fn serve<S: Source, K: Sink, E: Sink, L: Ledger>(
     let counted = Counted { session, steps };
     let (over, counted) = converse(alloc, counted, init.as_slice(), source, sink, out);
     let Counted { session, steps } = counted;
+    sink.finish();
     match over {
         Ok(over) => close(session, over, out, steps),
         Err(fault) => close_cut(session, fault, out, steps),

@@ -75,7 +75,7 @@ fn fetch_script<'a, H: Shelf>(
     }
 }
 
-/// Plays a script over the link that a new gate gives, and puts the link back. `None` where it gave none.
+/// Plays a script over the link that a new gate gives, ends the link and puts it back. `None` where it gave none.
 fn meet<R: Wait + Sync, D: Gate, O: Sink>(
     rt: &R,
     alloc: Global,
@@ -99,6 +99,7 @@ fn meet<R: Wait + Sync, D: Gate, O: Sink>(
     match door.accept() {
         Ok((mut source, mut sink, _)) => {
             let end = play(rt, alloc, script, &mut source, &mut sink, out);
+            sink.finish();
             door.retire(source, sink);
             Some(end)
         }

@@ -32,4 +32,5 @@ returns-in-Ok-clause-met g c =
     c.play-end.new.out)
     c.in-Ok.ensures.source c.in-Ok.ensures.sink c.requires.accepted c.requires.retired c.in-Ok.ensures.accepted
     c.accept.ensures.retired c.retire.ensures.accepted
-    c.retire.ensures.retired c.retire.ensures.returned c.play-end.ensures.ends
+    (rw c.finish.ensures.taken at c.retire.ensures.retired) (rw c.finish.ensures.faults at c.retire.ensures.returned)
+    c.play-end.ensures.ends
