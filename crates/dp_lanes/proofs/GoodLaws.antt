@@ -1,10 +1,10 @@
 -- Where a stream is not bad, and where it stays bad; how many frames it has.
-use Rattle.std.proofs.Common.{◌≡◌, ◌≢◌, ℕ, ◌+◌, ◌<◌, ◌≤◌, Bool, true, false, not, List, [], ◌∷◌, ◌++◌, length, take, drop, slice_range, flat_map, nat_le}
+use Rattle.std.proofs.Common.{◌≡◌, ◌≢◌, ℕ, ◌+◌, ◌<◌, ◌≤◌, true, false, not, List, [], ◌∷◌, ◌++◌, length, take, drop, slice_range, flat_map}
 use Rattle.std.proofs.Common.{refl, sym, ap, subst, ◌∙◌, inl, inr, append_assoc, append-nil, arith, length-append, length-drop}
 use Rattle.std.proofs.lemmas.Bool.{cases_lt, le-leb, false≢true}
 use Rattle.std.proofs.lemmas.List.{take-append-drop, take-append-le, take_at}
 use Rattle.std.specs.List.{AllByRecursion}
-use Rattle.dp_wire.specs.Frames.{Splits, IsCommand, BeginsNoCommand, command_frame, command_limit, up_to_nul, rest_of}
+use Rattle.dp_wire.specs.Frames.{Splits, BeginsNoCommand, command_limit, up_to_nul, rest_of}
 use Rattle.dp_wire.proofs.FrameLaws.{no_shorter}
 use Rattle.dp_wire.proofs.SplitLaws.{framed}
 use Rattle.dp_lanes.specs.declared.lane.LaneKind.{LaneKind}

@@ -141,7 +141,8 @@ handed_on kind bytes piece =
     let left = rest_in kind bytes ++ piece in
     let texts = texts_in kind left in
     let more = splits kind left in
-    ap (λ l. flat_map (frame kind) (texts_in kind bytes) ++ l) (handed_is kind bytes piece texts (rest_in kind left) more)
+    ap (λ l. flat_map (frame kind) (texts_in kind bytes) ++ l)
+    (handed_is kind bytes piece texts (rest_in kind left) more)
     ∙ sym (flat_map-append (frame kind) (texts_in kind bytes) texts)
     ∙ ap (flat_map (frame kind)) (sym (split_on kind bytes piece texts (rest_in kind left) more).0)
 

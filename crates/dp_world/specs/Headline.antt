@@ -12,16 +12,22 @@
 -- - *The session its key gave it*: when the engine connects, the registry answers its key by the
 --   calls before it, and by nothing else (dp_registry: Journal, Verdicts). A later registration or
 --   stop changes nothing of it.
--- - *Each IDE receives*: the `ide` line of the session, which goes to the address in the pass.
+-- - *Each IDE receives*: the `ide` line of the session, whose line `session` has the address.
 -- - *Whole packets*: those in the bytes that were read of the engine. Half a packet is never sent.
+--   What the engine sends is whole packets (dp_session_laws: `alone_is_whole_packets`), so where
+--   all was read, the IDE has all.
 -- - *Served alone*: `alone` of dp_engine, in which there is one engine, one IDE and no proxy.
 -- - *With that IDE's commands*: those among the bytes that it gave until its session ended.
 -- - *Nothing of another's*: what becomes of a session is a function of its key, its pass and what
 --   happens on its own link.
 --
--- What each reply shows is said with `alone` (dp_engine: `replies_show_the_run`): the program's
--- run, with the accepted writes, at that step. While none was accepted, output and result are those
--- of the run without a debugger (`watching_changes_nothing`).
+-- An example: the engine sends `5 NUL a b c d e NUL`, then `2 NUL f g NUL`. Where 10 bytes were
+-- read of it, `received` is `5 NUL a b c d e NUL`: of the second packet two bytes came, and the IDE
+-- has none of them. The line is `ide 3500616263646500`.
+--
+-- What each reply shows is said with `alone` (dp_session_laws: `replies_show_the_run`): the
+-- program's run, with the accepted writes, at that step. While none was accepted, output and result
+-- are those of the run without a debugger (`watching_changes_nothing`).
 use Rattle.std.specs.Prelude.{◌≡◌, ℕ, ◌≤◌, List, [], ◌∷◌, ◌++◌, length, Ok}
 use Rattle.dp_tree.specs.declared.bundle.Bundle.{Bundle}
 use Rattle.dp_engine.specs.Served.{alone}
