@@ -1,4 +1,4 @@
-//! Lists of events: their text, read as the events that it spells.
+//! Lists of events: their text, read as the events that it spells; and large lists, drawn by a generator.
 #![tactic(auto)]
 
 mod errors;
@@ -6,9 +6,11 @@ mod event;
 mod events;
 mod hex;
 mod readers;
+mod soak;
 mod spelling;
 
 pub use dp_value::Memory;
 pub use errors::ListError;
 pub use event::{Act, Event};
 pub use events::Events;
+pub use soak::soak_events;
