@@ -208,7 +208,7 @@ pub plain_passed : {A : Type 0} (bundle : Bundle) (here : ℕ) (t : Table) (set 
     → (result : Result A BreakpointError)
     → IfSome (plain_set_refusal bundle here t set) (λ code. result ≡ Err (Code code))
 plain_passed {A} bundle here t set r id free is h result =
-    subst (λ (o : Option ℕ). IfSome (option_or o (plain_refusal bundle t (request bundle here set)))
+    subst (λ (o : Option ErrorCode). IfSome (option_or o (plain_refusal bundle t (request bundle here set)))
     (λ code. result ≡ Err (Code code))) (sym free)
     (by (plain_refusal bundle t (request bundle here set)) (subst
     (λ (x : BreakRequest). IfSome (plain_refusal bundle t x) (λ code. held_id id ≡ Err (held.Code code))) is h))
@@ -226,7 +226,7 @@ pub plain_told : {A : Type 0} (bundle : Bundle) (here : ℕ) (t : Table) (set : 
     → IfSome (plain_set_refusal bundle here t set) (λ code. result ≡ Err (Code code))
 plain_told bundle here t set r e free is h (Ok a) told = absurd told
 plain_told {A} bundle here t set r e free is h (Err x) told =
-    subst (λ (o : Option ℕ). IfSome (option_or o (plain_refusal bundle t (request bundle here set)))
+    subst (λ (o : Option ErrorCode). IfSome (option_or o (plain_refusal bundle t (request bundle here set)))
     (λ code. failed {A = A} x ≡ Err (Code code))) (sym free)
     (by (plain_refusal bundle t (request bundle here set)) (subst
     (λ (y : BreakRequest). IfSome (plain_refusal bundle t y) (λ code. not_held e ≡ Err (held.Code code))) is h))
