@@ -121,7 +121,7 @@ module _ (s : State) (set : PropertySet) where
   abbrev named : Result Path ErrorCode
   named = named_path s set.place.level set.place.context set.place.name
 
-  abbrev once_by : (ℕ → Type 0) → Option Value → Type 0
+  abbrev once_by : (ErrorCode → Type 0) → Option Value → Type 0
   once_by P value = IfSome (code_in (and_then (λ v. named) (ok_or value InvalidOptions))) P
 
   pub valued_at_once : (value : Value) (P : ErrorCode → Type 0) → requested_value set ≡ Some value
@@ -176,7 +176,7 @@ module _ (bundle : Bundle) (features : Features) (before : State) (command id : 
 
   pub unvalued : (set : PropertySet) → requested_value set ≡ None
       → Answers bundle features before before command id (request.PropertySet set) (Err (Code InvalidOptions))
-  unvalued set v = (unasked (request.PropertySet set) 3 (property_unvalued before set v), refl)
+  unvalued set v = (unasked (request.PropertySet set) InvalidOptions (property_unvalued before set v), refl)
 
   pub untreed : (text : List ℕ) (why : ViewError) → IsTree text (Err why)
       → Answers bundle features before before command id (request.Eval text) (Err why)
