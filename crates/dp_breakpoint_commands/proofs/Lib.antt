@@ -1,3 +1,4 @@
 pub mod RequestTests
 pub mod Lengths
 pub mod Shown
+pub mod UpdateTests

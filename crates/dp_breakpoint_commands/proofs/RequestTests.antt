@@ -108,10 +108,10 @@ each_passed : (set : BreakpointSet) → first_code (word_tests set) ≡ None →
 unfolding word_tests
 each_passed set e =
     let known = passed (is_none (kind_named set.kind)) TypeNotSupported ((of_kind lacks_part set, InvalidOptions)
-        ∷ later_tests set) e in
+    ∷ later_tests set) e in
     let whole = passed (of_kind lacks_part set) InvalidOptions (later_tests set) known.1 in
     let fitting = passed (of_kind has_part_too_many set) InvalidOptions ((has_malformed_part set, InvalidOptions)
-        ∷ last_test set) whole.1 in
+    ∷ last_test set) whole.1 in
     let formed = passed (has_malformed_part set) InvalidOptions (last_test set) fitting.1 in
     record { known = known.0; whole = whole.0; fitting = fitting.0; formed = formed.0 }
 
