@@ -1,22 +1,21 @@
--- How a command with words behind it is read.
-use Rattle.std.proofs.Common.{◌≡◌, ℕ, suc, ◌+◌, ◌≤◌, Bool, true, false, ◌&&◌, not, List, [], ◌∷◌, ◌++◌, length, Option, Some, None, refl, sym, ap, ap₂, ◌∙◌, arith, codes, append_assoc, append-nil}
+-- How a command and the words behind it are read.
+use Rattle.std.proofs.Common.{◌≡◌, ℕ, suc, ◌+◌, ◌≤◌, Bool, true, false, ◌&&◌, not, List, [], ◌∷◌, ◌++◌, length, Option, Some, None, refl, sym, ap, ap₂, subst, ◌∙◌, arith, codes, append_assoc, append-nil}
 use Rattle.std.specs.Prelude.{if◌then◌else◌, fold, option_and_then, nat_lt, ◌==◌}
 use Rattle.std.specs.List.{list_all}
 use Rattle.std.specs.Option.{option_map_or}
 use Rattle.std.specs.Str.{bytes_eq}
-use Rattle.clap.specs.Lexer.{long_of, long_of_rest, short_of, short_of_rest, strip_byte, usize_max}
-use Rattle.clap.specs.Simple.{Shape, built, built_leaf, inherited, filled, with_index}
+use Rattle.clap.specs.Lexer.{long_of, long_of_rest, short_of, short_of_rest, strip_byte}
+use Rattle.clap.specs.Simple.{Shape, built_leaf, inherited}
 use Rattle.clap.specs.Kinds.{Kinds, or_else, range_kinds, values_kinds}
-use Rattle.clap.specs.declared.error.kind.ErrorKind.{ErrorKind}
 use Rattle.clap.specs.declared.error.kind.ErrorKind.TheVariants as kind
 use Rattle.clap.specs.declared.builder.value_parser.ValueParser.TheVariants as vp
 use Rattle.std.proofs.lemmas.Bool.Decides.{nat_tests}
-use Rattle.clap.specs.Faults.{level_fault, walk_fault, turn_fault, other_fault, flag_word_fault, bundle_fault, step_fault, settle_fault, defaults_fault, check_fault, use_fault}
-use Rattle.clap.specs.Walk.{Held, Row, Rule, Text, Waiting, Walk, Step, idle, option, positional, walked, walk, walk_from, nothing_held, after_step, plain_word, subcommand_or_other, long_or_other, short_or_plain, trailing, rows_after, settled, finished}
+use Rattle.clap.specs.Faults.{level_fault, walk_fault, turn_fault, other_fault, flag_word_fault, bundle_fault, step_fault, settle_fault, defaults_fault, check_fault}
+use Rattle.clap.specs.Walk.{Held, Row, Rule, Text, Waiting, Walk, Step, idle, option, positional, value, walked, walk, nothing_held, after_step, arg_by_index, plain_word, subcommand_or_other, long_or_other, short_or_plain, to_positional, trailing, rows_after, settled, finished}
 use Rattle.clap.proofs.OnLiterals.{clap_on_literals}
 use Rattle.dp_words.specs.Plain.{is_plain}
-use Rattle.dp_words.specs.inner.Rows.{bound_row, words_row}
-use Rattle.dp_words.specs.inner.Shapes.{bounded, unbounded, wordless, program, bound_rule, words_rule, top}
+use Rattle.dp_words.specs.inner.Given.{bound_rows, bounded, row, word_rows}
+use Rattle.dp_words.specs.inner.Shapes.{engine_words, ide_words, plain_row, program_row, replay_words, talk_words, top}
 
 -- ---- words that are plain
 
@@ -36,13 +35,14 @@ plain_is (b ∷ bs) h = by (b == 45) refl h where
   by true e n = absurd cc
   by false e n = record {
     no_long =
-        ap (λ (t : Bool). option_and_then long_of_rest (option_and_then (strip_byte 45) (if t then Some bs else None)))
+        ap (λ (t : Bool). option_and_then long_of_rest (option_and_then (strip_byte 45) (if t then Some bs else
+        None)))
         e;
     no_short = ap (λ (t : Bool). option_and_then short_of_rest (if t then Some bs else None)) e;
     no_dashes = ap (λ (t : Bool). t && bytes_eq bs (45 ∷ [])) e;
   }
 
--- ---- the leaves of the built command
+-- ---- the built command
 
 abbrev pub above : Shape
 above = record top { is_leaf = false; is_built = true }
@@ -50,169 +50,146 @@ above = record top { is_leaf = false; is_built = true }
 abbrev pub leaf : Shape → Shape
 leaf s = built_leaf (inherited above s)
 
-pub built_is : built program ≡ record {
-  top = above;
-  subs = leaf (bounded (codes "run")) ∷ leaf (bounded (codes "talk")) ∷ leaf (bounded (codes "engine"))
-      ∷ leaf (unbounded (codes "ide")) ∷ leaf (bounded (codes "replay")) ∷ leaf (wordless (codes "show")) ∷ [];
-}
-built_is = refl
+-- ---- a word
 
-abbrev pub W : Rule
-W = with_index 1 (filled words_rule)
-
-abbrev pub B : Rule
-B = filled bound_rule
-
--- the rules of a command with a bound, or without one
-abbrev pub R : Bool → List Rule
-R true = B ∷ W ∷ []
-R false = W ∷ []
-
-abbrev pub S : Bool → Text → Shape
-S true name = leaf (bounded name)
-S false name = leaf (unbounded name)
-
-pub rules_are : (b : Bool) (name : Text) → (S b name).rules ≡ R b
-rules_are true name = refl
-rules_are false name = refl
-
--- ---- walks
-
-abbrev pub at : List Row → Option (Text × List Text) → Waiting → Walk
-at rows pending waiting = record {
+abbrev pub at : ℕ → List Row → Option (Text × List Text) → Waiting → Walk
+at position rows pending waiting = record {
   held = record { rows = rows; pending = pending; skip = 0 };
   waiting = waiting;
-  position = 1;
+  position = position;
   is_trailing = false;
   stopped = None;
 }
 
 -- a plain word
-pub met : (c : List Rule) (waiting : Waiting) (word : Text) (h : Held) → Plain word
-    → subcommand_or_other c None waiting 1 word h ≡ plain_word c waiting word h
-met c waiting word h p =
-    ap (λ (t : Bool). if t then (h, trailing 1) else long_or_other c waiting word (long_of word) h) p.no_dashes
+pub met : (c : List Rule) (waiting : Waiting) (position : ℕ) (word : Text) (h : Held) → Plain word
+    → subcommand_or_other c None waiting position word h ≡ plain_word c waiting word h
+met c waiting position word h p =
+    ap (λ (t : Bool). if t then (h, trailing position) else long_or_other c waiting word (long_of word) h) p.no_dashes
     ∙ ap (λ (l : Option (Text × Option Text)). long_or_other c waiting word l h) p.no_long
     ∙ ap (λ (s : Option Text). short_or_plain c waiting word s h) p.no_short
-
-abbrev pub pending_words : List Text → Option (Text × List Text)
-pending_words vs = Some (codes "words", vs)
-
-abbrev pub pending_bound : List Text → Option (Text × List Text)
-pending_bound vs = Some (codes "bound", vs)
-
-abbrev pub start : Walk
-start = at [] None idle
-
--- while words are read, behind these rows
-abbrev pub reading_words : List Row → List Text → Walk
-reading_words rows vs = at rows (pending_words vs) positional
-
-abbrev pub by_met : List Rule → Text → Walk → Held × Step → Walk
-by_met c word w m = after_step c word w m.0 m.1
-
-pub first_word : (b : Bool) (word : Text) → Plain word → walked (R b) [] start word ≡ reading_words [] (word ∷ [])
-unfolding walked
-first_word true word p = ap (by_met (R true) word start) (met (R true) idle word start.held p)
-first_word false word p = ap (by_met (R false) word start) (met (R false) idle word start.held p)
-
-pub more_words : (b : Bool) (rows : List Row) (vs : List Text) (word : Text) → Plain word
-    → walked (R b) [] (reading_words rows vs) word ≡ reading_words rows (vs ++ word ∷ [])
-unfolding walked
-more_words true rows vs word p =
-    ap (by_met (R true) word (reading_words rows vs)) (met (R true) positional word (reading_words rows vs).held p)
-more_words false rows vs word p =
-    ap (by_met (R false) word (reading_words rows vs)) (met (R false) positional word (reading_words rows vs).held p)
-
-pub all_words : (b : Bool) (rows : List Row) (vs ws : List Text) → list_all is_plain ws ≡ true
-    → fold (walked (R b) []) (reading_words rows vs) ws ≡ reading_words rows (vs ++ ws)
-all_words b rows vs [] h = ap (reading_words rows) (sym (append-nil vs))
-all_words b rows vs (w ∷ ws) h =
-    let parts = both (is_plain w) (list_all is_plain ws) h in
-    ap (λ (x : Walk). fold (walked (R b) []) x ws) (more_words b rows vs w (plain_is w parts.0))
-    ∙ all_words b rows (vs ++ w ∷ []) ws parts.1
-    ∙ ap (reading_words rows) (append_assoc vs (w ∷ []) ws)
-
--- `--bound N` and the first word behind it
-pub bound_word : walked (R true) [] start (codes "--bound") ≡ at [] (pending_bound []) (option (codes "bound"))
-unfolding clap_on_literals
-bound_word = refl
-
-pub bound_number : (n : Text) → Plain n
-    → walked (R true) [] (at [] (pending_bound []) (option (codes "bound"))) n ≡ at [] (pending_bound (n ∷ [])) idle
-unfolding walked
-bound_number n p =
-    ap (by_met (R true) n (at [] (pending_bound []) (option (codes "bound"))))
-    (met (R true) (option (codes "bound")) n (at [] (pending_bound []) (option (codes "bound"))).held p)
-
-pub behind_bound : (n word : Text) → Plain word
-    → walked (R true) [] (at [] (pending_bound (n ∷ [])) idle) word ≡ reading_words (bound_row n ∷ []) (word ∷ [])
-unfolding walked
-behind_bound n word p =
-    ap (by_met (R true) word (at [] (pending_bound (n ∷ [])) idle))
-    (met (R true) idle word (at [] (pending_bound (n ∷ [])) idle).held p)
-
--- ---- faults of the walk
 
 -- a plain word is no flag
 pub no_flag : (s : Shape) (word : Text) (h : Held) → Plain word → other_fault s None word h ≡ []
 no_flag s word h p =
-    ap (λ (t : Bool). if t then [] else flag_word_fault s.rules s.args_override_self (long_of word) word h) p.no_dashes
+    ap (λ (t : Bool). if t then [] else flag_word_fault s.rules s.args_override_self (long_of word) word h)
+    p.no_dashes
     ∙ ap (λ (l : Option (Text × Option Text)). flag_word_fault s.rules s.args_override_self l word h) p.no_long
     ∙ ap (λ (f : Option Text). option_map_or (λ flags. bundle_fault s.rules s.args_override_self flags h) f [])
     p.no_short
 
-abbrev pub fault_met : Shape → Held × Step → Kinds
-fault_met s m = step_fault s 1 m.0 m.1
+abbrev pub by_met : List Rule → Text → Walk → Held × Step → Walk
+by_met c word w m = after_step c word w m.0 m.1
 
-abbrev pub first_fault : (s : Shape) → (w : Walk) → Text → Kinds
-first_fault s w word = turn_fault s [] w word
+abbrev pub fault_met : Shape → ℕ → Held × Step → Kinds
+fault_met s position m = step_fault s position m.0 m.1
 
-pub first_taken : (b : Bool) (name word : Text) → Plain word → turn_fault (S b name) [] start word ≡ []
-first_taken true name word p =
-    ap₂ or_else (no_flag (S true name) word start.held p) (ap (fault_met (S true name))
-    (met (R true) idle word start.held p))
-first_taken false name word p =
-    ap₂ or_else (no_flag (S false name) word start.held p) (ap (fault_met (S false name))
-    (met (R false) idle word start.held p))
+-- from one walk these words lead to another, and none of them is refused
+pub record Passes (s : Shape) (w : Walk) (words : List Text) (end : Walk) : Type 0 where
+  pub walks : fold (walked s.rules []) w words ≡ end
+  pub taken : walk_fault s [] w words ≡ []
 
-pub more_taken : (b : Bool) (name : Text) (rows : List Row) (vs : List Text) (word : Text) → Plain word
-    → turn_fault (S b name) [] (reading_words rows vs) word ≡ []
-more_taken true name rows vs word p =
-    ap₂ or_else (no_flag (S true name) word (reading_words rows vs).held p)
-    (ap (fault_met (S true name)) (met (R true) positional word (reading_words rows vs).held p))
-more_taken false name rows vs word p =
-    ap₂ or_else (no_flag (S false name) word (reading_words rows vs).held p)
-    (ap (fault_met (S false name)) (met (R false) positional word (reading_words rows vs).held p))
-
-pub all_taken : (b : Bool) (name : Text) (rows : List Row) (vs ws : List Text) → list_all is_plain ws ≡ true
-    → walk_fault (S b name) [] (reading_words rows vs) ws ≡ []
+pub passed : (s : Shape) (w : Walk) → Passes s w [] w
 unfolding walk_fault
-all_taken b name rows vs [] h = refl
-all_taken b name rows vs (w ∷ ws) h =
-    let parts = both (is_plain w) (list_all is_plain ws) h in
-    ap₂ or_else (more_taken b name rows vs w (plain_is w parts.0))
-    (ap (λ (x : Walk). walk_fault (S b name) [] x ws)
-    (ap (λ (rules : List Rule). walked rules [] (reading_words rows vs) w) (rules_are b name) ∙ more_words b rows vs w
-    (plain_is w parts.0))
-    ∙ all_taken b name rows (vs ++ w ∷ []) ws parts.1)
+passed s w = record { walks = refl; taken = refl }
 
-pub bound_taken : (name n : Text) → Plain n
-    → turn_fault (S true name) [] (at [] (pending_bound []) (option (codes "bound"))) n ≡ []
-bound_taken name n p =
-    ap₂ or_else (no_flag (S true name) n (at [] (pending_bound []) (option (codes "bound"))).held p)
-    (ap (fault_met (S true name)) (met (R true) (option (codes "bound")) n
-    (at [] (pending_bound []) (option (codes "bound"))).held p))
+-- a plain word goes to the positional whose turn it is, where nothing waits for a value
+pub pass_idle : (s : Shape) (position : ℕ) (rows : List Row) (pending : Option (Text × List Text)) (word : Text)
+    (next : Walk) → is_plain word ≡ true
+    → to_positional s.rules (arg_by_index s.rules position) word (at position rows pending idle)
+    (at position rows pending idle).held ≡ next
+    → step_fault s position (at position rows pending idle).held value ≡ []
+    → (words : List Text) (end : Walk) → Passes s next words end
+    → Passes s (at position rows pending idle) (word ∷ words) end
+unfolding walked walk_fault
+pass_idle s position rows pending word next plain goes fine words end rest =
+    let w = at position rows pending idle in
+    let p = plain_is word plain in
+    let step : walked s.rules [] w word ≡ next = ap (by_met s.rules word w)
+    (met s.rules idle position word w.held p) ∙ goes in
+    record {
+      walks = ap (λ (x : Walk). fold (walked s.rules []) x words) step ∙ rest.walks;
+      taken = ap₂ or_else
+          (ap₂ or_else (no_flag s word w.held p) (ap (fault_met s position) (met s.rules idle position word w.held p)
+          ∙ fine))
+          (ap (λ (x : Walk). walk_fault s [] x words) step ∙ rest.taken);
+    }
 
-pub behind_taken : (name n word : Text) → Plain word
-    → turn_fault (S true name) [] (at [] (pending_bound (n ∷ [])) idle) word ≡ []
-behind_taken name n word p =
-    ap₂ or_else (no_flag (S true name) word (at [] (pending_bound (n ∷ [])) idle).held p)
-    (ap (fault_met (S true name)) (met (R true) idle word (at [] (pending_bound (n ∷ [])) idle).held p))
+-- likewise where the last positional takes more
+pub pass_more : (s : Shape) (position : ℕ) (rows : List Row) (pending : Option (Text × List Text)) (word : Text)
+    (next : Walk) → is_plain word ≡ true
+    → to_positional s.rules (arg_by_index s.rules position) word (at position rows pending positional)
+    (at position rows pending positional).held ≡ next
+    → step_fault s position (at position rows pending positional).held value ≡ []
+    → (words : List Text) (end : Walk) → Passes s next words end
+    → Passes s (at position rows pending positional) (word ∷ words) end
+unfolding walked walk_fault
+pass_more s position rows pending word next plain goes fine words end rest =
+    let w = at position rows pending positional in
+    let p = plain_is word plain in
+    let step : walked s.rules [] w word ≡ next = ap (by_met s.rules word w)
+    (met s.rules positional position word w.held p) ∙ goes in
+    record {
+      walks = ap (λ (x : Walk). fold (walked s.rules []) x words) step ∙ rest.walks;
+      taken = ap₂ or_else
+          (ap₂ or_else (no_flag s word w.held p) (ap (fault_met s position) (met s.rules positional position word
+          w.held
+          p) ∙ fine))
+          (ap (λ (x : Walk). walk_fault s [] x words) step ∙ rest.taken);
+    }
 
-pub flag_taken : (name : Text) → turn_fault (S true name) [] start (codes "--bound") ≡ []
+abbrev pub begun : Option Text → Walk
+begun None = at 1 [] None idle
+begun (Some number) = at 1 [] (Some (codes "bound", number ∷ [])) idle
+
+-- ---- a bound
+
+abbrev pub P : Text → List Text → Shape
+P name ids = leaf (program_row name ids)
+
+pub flag_walk : (name : Text) (ids : List Text)
+    → walked (P name ids).rules [] (begun None) (codes "--bound")
+    ≡ at 1 [] (Some (codes "bound", [])) (option (codes "bound"))
 unfolding clap_on_literals
-flag_taken name = refl
+flag_walk name ids = refl
+
+pub flag_taken : (name : Text) (ids : List Text) → turn_fault (P name ids) [] (begun None) (codes "--bound") ≡ []
+unfolding clap_on_literals
+flag_taken name ids = refl
+
+pub number_walk : (name : Text) (ids : List Text) (n : Text) → Plain n
+    → walked (P name ids).rules [] (at 1 [] (Some (codes "bound", [])) (option (codes "bound"))) n ≡ begun (Some n)
+unfolding walked
+number_walk name ids n p =
+    let w = at 1 [] (Some (codes "bound", [])) (option (codes "bound")) in
+    ap (by_met (P name ids).rules n w) (met (P name ids).rules (option (codes "bound")) 1 n w.held p)
+
+pub number_taken : (name : Text) (ids : List Text) (n : Text) → Plain n
+    → turn_fault (P name ids) [] (at 1 [] (Some (codes "bound", [])) (option (codes "bound"))) n ≡ []
+number_taken name ids n p =
+    let w = at 1 [] (Some (codes "bound", [])) (option (codes "bound")) in
+    ap₂ or_else (no_flag (P name ids) n w.held p)
+    (ap (fault_met (P name ids) 1) (met (P name ids).rules (option (codes "bound")) 1 n w.held p))
+
+-- a bound that is plain, if there is one
+abbrev pub is_plain_bound : Option Text → Bool
+is_plain_bound None = true
+is_plain_bound (Some number) = is_plain number
+
+pub pass_bound : (name : Text) (ids : List Text) (bound : Option Text) (words : List Text) (end : Walk)
+    → is_plain_bound bound ≡ true → Passes (P name ids) (begun bound) words end
+    → Passes (P name ids) (begun None) (bounded bound words) end
+unfolding walk_fault
+pass_bound name ids None words end plain rest = rest
+pass_bound name ids (Some n) words end plain rest =
+    let p = plain_is n plain in record {
+      walks = ap (λ (x : Walk). fold (walked (P name ids).rules []) x (n ∷ words)) (flag_walk name ids)
+          ∙ ap (λ (x : Walk). fold (walked (P name ids).rules []) x words) (number_walk name ids n p) ∙ rest.walks;
+      taken = ap₂ or_else (flag_taken name ids)
+          (ap (λ (x : Walk). walk_fault (P name ids) [] x (n ∷ words)) (flag_walk name ids)
+          ∙ ap₂ or_else (number_taken name ids n p)
+          (ap (λ (x : Walk). walk_fault (P name ids) [] x words) (number_walk name ids n p) ∙ rest.taken));
+    }
 
 -- ---- behind the walk
 
@@ -222,150 +199,421 @@ tail_fault s e =
     or_else (settle_fault s.rules s.args_override_self e)
     (or_else (defaults_fault (settled s.rules e).rows s.rules) (check_fault s (finished s.rules e) false))
 
-pub level_is : (s : Shape) (words : List Text) → level_fault s [] nothing_held words false []
-    ≡ or_else (walk_fault s [] (walk_from nothing_held) words) (tail_fault s (walk s.rules [] nothing_held words).held)
-level_is s words = refl
+abbrev pub fault : Shape → List Text → Kinds
+fault s words = level_fault s [] nothing_held words false []
+
+pub level : (s : Shape) (words : List Text) (end : Walk) (kinds : Kinds) → Passes s (begun None) words end
+    → tail_fault s end.held ≡ kinds → fault s words ≡ kinds
+level s words end kinds p tail = ap₂ or_else p.taken (ap (λ (x : Walk). tail_fault s x.held) p.walks ∙ tail)
+
+pub rows_at_end : (s : Shape) (words : List Text) (end : Walk) → Passes s (begun None) words end
+    → rows_after s.rules [] words ≡ finished s.rules end.held
+rows_at_end s words end p = ap (λ (x : Walk). finished s.rules x.held) p.walks
+
+abbrev pub wanting : Kinds
+wanting = kind.MissingRequiredArgument ∷ []
+
+abbrev pub too_many : Kinds
+too_many = kind.TooManyValues ∷ []
 
 pub accepted : (vs : List Text) → values_kinds false vp.String vs ≡ []
 accepted [] = refl
 accepted (v ∷ vs) = accepted vs
 
-abbrev pub in_range : Bool → Bool → Bool → Kinds
+abbrev in_range : Bool → Bool → Bool → Kinds
 in_range no_value too_few too_many =
     if no_value then kind.InvalidValue ∷ []
     else (if too_few then kind.TooFewValues ∷ [] else (if too_many then kind.TooManyValues ∷ [] else []))
 
-pub few : (n : ℕ) → suc n ≤ usize_max → range_kinds 1 usize_max (suc n) ≡ []
+-- as many files as a program may have, and more
+pub few : (n : ℕ) → suc n ≤ 64 → range_kinds 1 64 (suc n) ≡ []
 few n small =
     let some : (suc n == 0) ≡ false = grind (arith, nat_tests) in
     let enough : nat_lt (suc n) 1 ≡ false = grind (arith, nat_tests) in
-    let no_more : nat_lt usize_max (suc n) ≡ false = grind (arith, nat_tests) in
+    let no_more : nat_lt 64 (suc n) ≡ false = grind (arith, nat_tests) in
     λ i. in_range (some i) (enough i) (no_more i)
 
--- the words are used as they stand
-pub words_used : (vs : List Text) (v : Text) (rows : List Row) → suc (length vs) ≤ usize_max
-    → use_fault false W (v ∷ vs) rows ≡ []
-words_used vs v rows small = ap₂ or_else (few (length vs) small) (accepted vs)
+pub many : (n : ℕ) → 65 ≤ suc n → range_kinds 1 64 (suc n) ≡ too_many
+many n large =
+    let some : (suc n == 0) ≡ false = grind (arith, nat_tests) in
+    let enough : nat_lt (suc n) 1 ≡ false = grind (arith, nat_tests) in
+    let more : nat_lt 64 (suc n) ≡ true = grind (arith, nat_tests) in
+    λ i. in_range (some i) (enough i) (more i)
 
-pub words_fine : (b : Bool) (name : Text) (v : Text) (vs : List Text) → suc (length vs) ≤ usize_max
-    → tail_fault (S b name) (reading_words [] (v ∷ vs)).held ≡ []
+-- ---- the files of a program
+
+abbrev pub files : ℕ → List Row → List Text → Walk
+files position rows fs = at position rows (Some (codes "FILE", fs)) positional
+
+-- a place at which a command takes its files
+pub record TakesFiles (s : Shape) (position : ℕ) (rows : List Row) : Type 0 where
+  pub goes : (fs : List Text) (f : Text)
+      → to_positional s.rules (arg_by_index s.rules position) f (files position rows fs)
+      (files position rows fs).held ≡ files position rows (fs ++ f ∷ [])
+  pub fine : (fs : List Text) → step_fault s position (files position rows fs).held value ≡ []
+  pub fits : (f : Text) (fs : List Text) (kinds : Kinds) → range_kinds 1 64 (suc (length fs)) ≡ kinds
+      → tail_fault s (files position rows (f ∷ fs)).held ≡ kinds
+  pub found : (f : Text) (fs : List Text)
+      → finished s.rules (files position rows (f ∷ fs)).held ≡ rows ++ row (codes "FILE") (f ∷ fs) ∷ []
+
+pub more_files : (s : Shape) (position : ℕ) (rows : List Row) → TakesFiles s position rows → (fs more : List Text)
+    → list_all is_plain more ≡ true → Passes s (files position rows fs) more (files position rows (fs ++ more))
+more_files s position rows t fs [] h =
+    record {
+      walks = ap (files position rows) (sym (append-nil fs));
+      taken = (passed s (files position rows
+          fs)).taken;
+    }
+more_files s position rows t fs (f ∷ more) h =
+    let parts = both (is_plain f) (list_all is_plain more) h in
+    let rest = more_files s position rows t (fs ++ f ∷ []) more parts.1 in
+    pass_more s position rows (Some (codes "FILE", fs)) f (files position rows (fs ++ f ∷ [])) parts.0
+    (t.goes fs f) (t.fine fs) more (files position rows (fs ++ f ∷ more))
+    (record { walks = rest.walks ∙ ap (files position rows) (append_assoc fs (f ∷ []) more); taken = rest.taken })
+
+last_of : (kinds : Kinds) (f : Text) (fs : List Text)
+    → or_else (or_else kinds (values_kinds false vp.String (f ∷ fs))) [] ≡ kinds
+last_of [] f fs = ap (λ (k : Kinds). or_else k []) (accepted (f ∷ fs))
+last_of (k ∷ ks) f fs = refl
+
+-- ---- `run`
+
+abbrev pub run_rows : Option Text → List Row
+run_rows bound = bound_rows bound ++ word_rows [] []
+
+pub run_takes : (name : Text) (bound : Option Text) → TakesFiles (P name []) 1 (run_rows bound)
 unfolding defaults_fault
-words_fine true name v vs small = ap (λ (k : Kinds). or_else k []) (words_used vs v [] small)
-words_fine false name v vs small = ap (λ (k : Kinds). or_else k []) (words_used vs v [] small)
+run_takes name None = record {
+  goes = λ fs f. refl;
+  fine = λ fs. refl;
+  fits = λ f fs kinds is. ap (λ (k : Kinds). or_else (or_else k (values_kinds false vp.String (f ∷ fs))) []) is
+      ∙ last_of kinds f fs;
+  found = λ f fs. refl;
+}
+run_takes name (Some n) = record {
+  goes = λ fs f. refl;
+  fine = λ fs. refl;
+  fits = λ f fs kinds is. ap (λ (k : Kinds). or_else (or_else k (values_kinds false vp.String (f ∷ fs))) []) is
+      ∙ last_of kinds f fs;
+  found = λ f fs. refl;
+}
 
-pub bounded_fine : (name n v : Text) (vs : List Text) → suc (length vs) ≤ usize_max
-    → tail_fault (S true name) (reading_words (bound_row n ∷ []) (v ∷ vs)).held ≡ []
+pub run_read : (name : Text) (bound : Option Text) (f : Text) (fs : List Text) → is_plain f ≡ true
+    → list_all is_plain fs ≡ true
+    → Passes (P name []) (begun bound) (f ∷ fs) (files 1 (run_rows bound) (f ∷ fs))
+run_read name None f fs hf hs =
+    pass_idle (P name []) 1 _ _ f _ hf refl refl _ _
+    (more_files (P name []) 1 _ (run_takes name None) (f ∷ []) fs hs)
+run_read name (Some n) f fs hf hs =
+    pass_idle (P name []) 1 _ _ f _ hf refl refl _ _
+    (more_files (P name []) 1 _ (run_takes name (Some n)) (f ∷ []) fs hs)
+
+pub run_lacks_1 : (name : Text) (bound : Option Text) → is_plain_bound bound ≡ true
+    → fault (P name []) (bounded bound ([])) ≡ wanting
 unfolding defaults_fault
-bounded_fine name n v vs small = ap (λ (k : Kinds). or_else k []) (words_used vs v (bound_row n ∷ []) small)
+run_lacks_1 name None plain =
+    level (P name []) (bounded None ([])) _ wanting (pass_bound name [] None ([]) _ plain
+    (passed (P name []) _)) refl
+run_lacks_1 name (Some n) plain =
+    level (P name []) (bounded (Some n) ([])) _ wanting (pass_bound name [] (Some n) ([]) _ plain
+    (passed (P name []) _)) refl
 
--- ---- a command and the words behind it
+-- ---- `talk`
 
-abbrev pub fault : Shape → List Text → Kinds
-fault s words = level_fault s [] nothing_held words false []
+abbrev pub talk_rows : Option Text → Text → List Row
+talk_rows bound k = bound_rows bound ++ word_rows talk_words (k ∷ [])
 
-pub plain_walk : (b : Bool) (v : Text) (vs : List Text) → is_plain v ≡ true → list_all is_plain vs ≡ true
-    → walk (R b) [] nothing_held (v ∷ vs) ≡ reading_words [] (v ∷ vs)
-plain_walk b v vs h hs =
-    ap (λ (x : Walk). fold (walked (R b) []) x vs) (first_word b v (plain_is v h)) ∙ all_words b [] (v ∷ []) vs hs
+pub talk_takes : (name : Text) (bound : Option Text) (k : Text) → TakesFiles (P name talk_words) 2 (talk_rows bound k)
+unfolding defaults_fault
+talk_takes name None k = record {
+  goes = λ fs f. refl;
+  fine = λ fs. refl;
+  fits = λ f fs kinds is. ap (λ (k : Kinds). or_else (or_else k (values_kinds false vp.String (f ∷ fs))) []) is
+      ∙ last_of kinds f fs;
+  found = λ f fs. refl;
+}
+talk_takes name (Some n) k = record {
+  goes = λ fs f. refl;
+  fine = λ fs. refl;
+  fits = λ f fs kinds is. ap (λ (k : Kinds). or_else (or_else k (values_kinds false vp.String (f ∷ fs))) []) is
+      ∙ last_of kinds f fs;
+  found = λ f fs. refl;
+}
 
-pub plain_taken : (b : Bool) (name v : Text) (vs : List Text) → is_plain v ≡ true → list_all is_plain vs ≡ true
-    → walk_fault (S b name) [] start (v ∷ vs) ≡ []
+pub talk_read : (name : Text) (bound : Option Text) (k : Text) (f : Text) (fs : List Text)
+    → is_plain k ≡ true → is_plain f ≡ true
+    → list_all is_plain fs ≡ true
+    → Passes (P name talk_words) (begun bound) (k ∷ f ∷ fs) (files 2 (talk_rows bound k) (f ∷ fs))
+talk_read name None k f fs hk hf hs =
+    pass_idle (P name talk_words) 1 _ _ k _ hk refl refl _ _
+    (pass_idle (P name talk_words) 2 _ _ f _ hf refl refl _ _
+    (more_files (P name talk_words) 2 _ (talk_takes name None k) (f ∷ []) fs hs))
+talk_read name (Some n) k f fs hk hf hs =
+    pass_idle (P name talk_words) 1 _ _ k _ hk refl refl _ _
+    (pass_idle (P name talk_words) 2 _ _ f _ hf refl refl _ _
+    (more_files (P name talk_words) 2 _ (talk_takes name (Some n) k) (f ∷ []) fs hs))
+
+pub talk_lacks_2 : (name : Text) (bound : Option Text) → is_plain_bound bound ≡ true
+    → fault (P name talk_words) (bounded bound ([])) ≡ wanting
+unfolding defaults_fault
+talk_lacks_2 name None plain =
+    level (P name talk_words) (bounded None ([])) _ wanting (pass_bound name talk_words None ([]) _ plain
+    (passed (P name talk_words) _)) refl
+talk_lacks_2 name (Some n) plain =
+    level (P name talk_words) (bounded (Some n) ([])) _ wanting (pass_bound name talk_words (Some n) ([]) _ plain
+    (passed (P name talk_words) _)) refl
+
+pub talk_lacks_1 : (name : Text) (bound : Option Text) (k : Text) → is_plain_bound bound ≡ true → is_plain k ≡ true
+    → fault (P name talk_words) (bounded bound (k ∷ [])) ≡ wanting
+unfolding defaults_fault
+talk_lacks_1 name None k plain hk =
+    level (P name talk_words) (bounded None (k ∷ [])) _ wanting (pass_bound name talk_words None (k ∷ []) _ plain
+    (pass_idle (P name talk_words) 1 _ _ k _ hk refl refl _ _ (passed (P name talk_words) _))) refl
+talk_lacks_1 name (Some n) k plain hk =
+    level (P name talk_words) (bounded (Some n) (k ∷ [])) _ wanting
+    (pass_bound name talk_words (Some n) (k ∷ []) _ plain
+    (pass_idle (P name talk_words) 1 _ _ k _ hk refl refl _ _ (passed (P name talk_words) _))) refl
+
+-- ---- `engine`
+
+abbrev pub engine_rows : Option Text → Text → Text → Text → List Row
+engine_rows bound h p k = bound_rows bound ++ word_rows engine_words (h ∷ p ∷ k ∷ [])
+
+pub engine_takes : (name : Text) (bound : Option Text) (h p k : Text) → TakesFiles (P name engine_words) 4
+    (engine_rows bound h p k)
+unfolding defaults_fault
+engine_takes name None h p k = record {
+  goes = λ fs f. refl;
+  fine = λ fs. refl;
+  fits = λ f fs kinds is. ap (λ (k : Kinds). or_else (or_else k (values_kinds false vp.String (f ∷ fs))) []) is
+      ∙ last_of kinds f fs;
+  found = λ f fs. refl;
+}
+engine_takes name (Some n) h p k = record {
+  goes = λ fs f. refl;
+  fine = λ fs. refl;
+  fits = λ f fs kinds is. ap (λ (k : Kinds). or_else (or_else k (values_kinds false vp.String (f ∷ fs))) []) is
+      ∙ last_of kinds f fs;
+  found = λ f fs. refl;
+}
+
+pub engine_read : (name : Text) (bound : Option Text) (h p k : Text) (f : Text) (fs : List Text)
+    → is_plain h ≡ true → is_plain p ≡ true → is_plain k ≡ true → is_plain f ≡ true
+    → list_all is_plain fs ≡ true
+    → Passes (P name engine_words) (begun bound) (h ∷ p ∷ k ∷ f ∷ fs) (files 4 (engine_rows bound h p k) (f ∷ fs))
+engine_read name None h p k f fs hh hp hk hf hs =
+    pass_idle (P name engine_words) 1 _ _ h _ hh refl refl _ _
+    (pass_idle (P name engine_words) 2 _ _ p _ hp refl refl _ _
+    (pass_idle (P name engine_words) 3 _ _ k _ hk refl refl _ _
+    (pass_idle (P name engine_words) 4 _ _ f _ hf refl refl _ _
+    (more_files (P name engine_words) 4 _ (engine_takes name None h p k) (f ∷ []) fs hs))))
+engine_read name (Some n) h p k f fs hh hp hk hf hs =
+    pass_idle (P name engine_words) 1 _ _ h _ hh refl refl _ _
+    (pass_idle (P name engine_words) 2 _ _ p _ hp refl refl _ _
+    (pass_idle (P name engine_words) 3 _ _ k _ hk refl refl _ _
+    (pass_idle (P name engine_words) 4 _ _ f _ hf refl refl _ _
+    (more_files (P name engine_words) 4 _ (engine_takes name (Some n) h p k) (f ∷ []) fs hs))))
+
+pub engine_lacks_4 : (name : Text) (bound : Option Text) → is_plain_bound bound ≡ true
+    → fault (P name engine_words) (bounded bound ([])) ≡ wanting
+unfolding defaults_fault
+engine_lacks_4 name None plain =
+    level (P name engine_words) (bounded None ([])) _ wanting (pass_bound name engine_words None ([]) _ plain
+    (passed (P name engine_words) _)) refl
+engine_lacks_4 name (Some n) plain =
+    level (P name engine_words) (bounded (Some n) ([])) _ wanting (pass_bound name engine_words (Some n) ([]) _ plain
+    (passed (P name engine_words) _)) refl
+
+pub engine_lacks_3 : (name : Text) (bound : Option Text) (h : Text) → is_plain_bound bound ≡ true → is_plain h ≡ true
+    → fault (P name engine_words) (bounded bound (h ∷ [])) ≡ wanting
+unfolding defaults_fault
+engine_lacks_3 name None h plain hh =
+    level (P name engine_words) (bounded None (h ∷ [])) _ wanting (pass_bound name engine_words None (h ∷ []) _ plain
+    (pass_idle (P name engine_words) 1 _ _ h _ hh refl refl _ _ (passed (P name engine_words) _))) refl
+engine_lacks_3 name (Some n) h plain hh =
+    level (P name engine_words) (bounded (Some n) (h ∷ [])) _ wanting
+    (pass_bound name engine_words (Some n) (h ∷ []) _ plain
+    (pass_idle (P name engine_words) 1 _ _ h _ hh refl refl _ _ (passed (P name engine_words) _))) refl
+
+pub engine_lacks_2 : (name : Text) (bound : Option Text) (h p : Text) → is_plain_bound bound ≡ true
+    → is_plain h ≡ true → is_plain p ≡ true
+    → fault (P name engine_words) (bounded bound (h ∷ p ∷ [])) ≡ wanting
+unfolding defaults_fault
+engine_lacks_2 name None h p plain hh hp =
+    level (P name engine_words) (bounded None (h ∷ p ∷ [])) _ wanting
+    (pass_bound name engine_words None (h ∷ p ∷ []) _ plain
+    (pass_idle (P name engine_words) 1 _ _ h _ hh refl refl _ _
+    (pass_idle (P name engine_words) 2 _ _ p _ hp refl refl _ _
+    (passed (P name engine_words) _)))) refl
+engine_lacks_2 name (Some n) h p plain hh hp =
+    level (P name engine_words) (bounded (Some n) (h ∷ p ∷ [])) _ wanting
+    (pass_bound name engine_words (Some n) (h ∷ p ∷ []) _ plain
+    (pass_idle (P name engine_words) 1 _ _ h _ hh refl refl _ _
+    (pass_idle (P name engine_words) 2 _ _ p _ hp refl refl _ _
+    (passed (P name engine_words) _)))) refl
+
+pub engine_lacks_1 : (name : Text) (bound : Option Text) (h p k : Text) → is_plain_bound bound ≡ true
+    → is_plain h ≡ true → is_plain p ≡ true → is_plain k ≡ true
+    → fault (P name engine_words) (bounded bound (h ∷ p ∷ k ∷ [])) ≡ wanting
+unfolding defaults_fault
+engine_lacks_1 name None h p k plain hh hp hk =
+    level (P name engine_words) (bounded None (h ∷ p ∷ k ∷ [])) _ wanting
+    (pass_bound name engine_words None (h ∷ p ∷ k ∷ []) _ plain
+    (pass_idle (P name engine_words) 1 _ _ h _ hh refl refl _ _
+    (pass_idle (P name engine_words) 2 _ _ p _ hp refl refl _ _
+    (pass_idle (P name engine_words) 3 _ _ k _ hk refl refl _ _
+    (passed (P name engine_words) _))))) refl
+engine_lacks_1 name (Some n) h p k plain hh hp hk =
+    level (P name engine_words) (bounded (Some n) (h ∷ p ∷ k ∷ [])) _ wanting
+    (pass_bound name engine_words (Some n) (h ∷ p ∷ k ∷ []) _ plain
+    (pass_idle (P name engine_words) 1 _ _ h _ hh refl refl _ _
+    (pass_idle (P name engine_words) 2 _ _ p _ hp refl refl _ _
+    (pass_idle (P name engine_words) 3 _ _ k _ hk refl refl _ _
+    (passed (P name engine_words) _))))) refl
+
+-- ---- `replay`
+
+abbrev pub replay_rows : Option Text → Text → List Row
+replay_rows bound e = bound_rows bound ++ word_rows replay_words (e ∷ [])
+
+pub replay_takes : (name : Text) (bound : Option Text) (e : Text) → TakesFiles (P name replay_words) 2 (replay_rows
+    bound e)
+unfolding defaults_fault
+replay_takes name None e = record {
+  goes = λ fs f. refl;
+  fine = λ fs. refl;
+  fits = λ f fs kinds is. ap (λ (k : Kinds). or_else (or_else k (values_kinds false vp.String (f ∷ fs))) []) is
+      ∙ last_of kinds f fs;
+  found = λ f fs. refl;
+}
+replay_takes name (Some n) e = record {
+  goes = λ fs f. refl;
+  fine = λ fs. refl;
+  fits = λ f fs kinds is. ap (λ (k : Kinds). or_else (or_else k (values_kinds false vp.String (f ∷ fs))) []) is
+      ∙ last_of kinds f fs;
+  found = λ f fs. refl;
+}
+
+pub replay_read : (name : Text) (bound : Option Text) (e : Text) (f : Text) (fs : List Text)
+    → is_plain e ≡ true → is_plain f ≡ true
+    → list_all is_plain fs ≡ true
+    → Passes (P name replay_words) (begun bound) (e ∷ f ∷ fs) (files 2 (replay_rows bound e) (f ∷ fs))
+replay_read name None e f fs he hf hs =
+    pass_idle (P name replay_words) 1 _ _ e _ he refl refl _ _
+    (pass_idle (P name replay_words) 2 _ _ f _ hf refl refl _ _
+    (more_files (P name replay_words) 2 _ (replay_takes name None e) (f ∷ []) fs hs))
+replay_read name (Some n) e f fs he hf hs =
+    pass_idle (P name replay_words) 1 _ _ e _ he refl refl _ _
+    (pass_idle (P name replay_words) 2 _ _ f _ hf refl refl _ _
+    (more_files (P name replay_words) 2 _ (replay_takes name (Some n) e) (f ∷ []) fs hs))
+
+pub replay_lacks_2 : (name : Text) (bound : Option Text) → is_plain_bound bound ≡ true
+    → fault (P name replay_words) (bounded bound ([])) ≡ wanting
+unfolding defaults_fault
+replay_lacks_2 name None plain =
+    level (P name replay_words) (bounded None ([])) _ wanting (pass_bound name replay_words None ([]) _ plain
+    (passed (P name replay_words) _)) refl
+replay_lacks_2 name (Some n) plain =
+    level (P name replay_words) (bounded (Some n) ([])) _ wanting (pass_bound name replay_words (Some n) ([]) _ plain
+    (passed (P name replay_words) _)) refl
+
+pub replay_lacks_1 : (name : Text) (bound : Option Text) (e : Text) → is_plain_bound bound ≡ true → is_plain e ≡ true
+    → fault (P name replay_words) (bounded bound (e ∷ [])) ≡ wanting
+unfolding defaults_fault
+replay_lacks_1 name None e plain he =
+    level (P name replay_words) (bounded None (e ∷ [])) _ wanting (pass_bound name replay_words None (e ∷ []) _ plain
+    (pass_idle (P name replay_words) 1 _ _ e _ he refl refl _ _ (passed (P name replay_words) _))) refl
+replay_lacks_1 name (Some n) e plain he =
+    level (P name replay_words) (bounded (Some n) (e ∷ [])) _ wanting
+    (pass_bound name replay_words (Some n) (e ∷ []) _ plain
+    (pass_idle (P name replay_words) 1 _ _ e _ he refl refl _ _ (passed (P name replay_words) _))) refl
+
+-- ---- `ide`
+
+abbrev pub I : Text → Shape
+I name = leaf (plain_row name ide_words)
+
+pub ide_read : (name p s : Text) → is_plain p ≡ true → is_plain s ≡ true
+    → Passes (I name) (begun None) (p ∷ s ∷ [])
+    (at 3 (word_rows ide_words (p ∷ [])) (Some (codes "SCRIPT", s ∷ [])) idle)
+ide_read name p s hp hs =
+    pass_idle (I name) 1 _ _ p _ hp refl refl _ _ (pass_idle (I name) 2 _ _ s _ hs refl refl _ _ (passed (I name) _))
+
+pub ide_fine : (name p s : Text) → is_plain p ≡ true → is_plain s ≡ true → fault (I name) (p ∷ s ∷ []) ≡ []
+unfolding defaults_fault
+ide_fine name p s hp hs = level (I name) (p ∷ s ∷ []) _ [] (ide_read name p s hp hs) refl
+
+pub ide_found : (name p s : Text) → is_plain p ≡ true → is_plain s ≡ true
+    → rows_after (I name).rules [] (p ∷ s ∷ []) ≡ word_rows ide_words (p ∷ s ∷ [])
+ide_found name p s hp hs = rows_at_end (I name) (p ∷ s ∷ []) _ (ide_read name p s hp hs)
+
+pub ide_lacks_2 : (name : Text) → fault (I name) [] ≡ wanting
+unfolding defaults_fault
+ide_lacks_2 name = level (I name) [] _ wanting (passed (I name) _) refl
+
+pub ide_lacks_1 : (name p : Text) → is_plain p ≡ true → fault (I name) (p ∷ []) ≡ wanting
+unfolding defaults_fault
+ide_lacks_1 name p hp =
+    level (I name) (p ∷ []) _ wanting (pass_idle (I name) 1 _ _ p _ hp refl refl _ _ (passed (I name) _)) refl
+
+-- ---- one word too many
+
+abbrev pub HasFault : Kinds → Type 0
+HasFault [] = ⊥
+HasFault (k ∷ ks) = Unit {0}
+
+refused : (first more rest : Kinds) → HasFault first → HasFault (or_else (or_else first more) rest)
+refused [] more rest h = absurd h
+refused (k ∷ ks) more rest h = tt
+
+-- a plain word for which there is no positional
+stray : (s : Shape) (position : ℕ) (rows : List Row) (pending : Option (Text × List Text)) (word : Text)
+    → is_plain word ≡ true → HasFault (step_fault s position (at position rows pending idle).held value)
+    → HasFault (turn_fault s [] (at position rows pending idle) word)
+stray s position rows pending word plain none =
+    let w = at position rows pending idle in
+    let p = plain_is word plain in
+    subst HasFault (sym (ap₂ or_else (no_flag s word w.held p)
+    (ap (fault_met s position) (met s.rules idle position word w.held p)))) none
+
+none_of : (first more : Kinds) → or_else first more ≡ [] → (first ≡ []) × (more ≡ [])
+none_of [] more h = (refl, h)
+none_of (k ∷ ks) more h = absurd cc
+
+-- what is wrong with words behind those that pass
+pass_then : (s : Shape) (w : Walk) (words more : List Text) (end : Walk) → Passes s w words end
+    → walk_fault s [] w (words ++ more) ≡ walk_fault s [] end more
 unfolding walk_fault
-plain_taken b name v vs h hs =
-    ap₂ or_else (first_taken b name v (plain_is v h))
-    (ap (λ (x : Walk). walk_fault (S b name) [] x vs)
-    (ap (λ (rules : List Rule). walked rules [] start v) (rules_are b name) ∙ first_word b v (plain_is v h))
-    ∙ all_taken b name [] (v ∷ []) vs hs)
+pass_then s w [] more end p = ap (λ (x : Walk). walk_fault s [] x more) p.walks
+pass_then s w (word ∷ words) more end p =
+    let parts = none_of (turn_fault s [] w word) (walk_fault s [] (walked s.rules [] w word) words) p.taken in
+    ap₂ or_else parts.0 (pass_then s (walked s.rules [] w word) words more end
+    (record { walks = p.walks; taken = parts.1 }))
 
-pub walk_of : (b : Bool) (name : Text) (words : List Text)
-    → walk (S b name).rules [] nothing_held words ≡ walk (R b) [] nothing_held words
-walk_of b name words = ap (λ (rules : List Rule). walk rules [] nothing_held words) (rules_are b name)
-
-pub plain_level : (b : Bool) (name v : Text) (vs : List Text) → is_plain v ≡ true → list_all is_plain vs ≡ true
-    → suc (length vs) ≤ usize_max
-    → fault (S b name) (v ∷ vs) ≡ []
-plain_level b name v vs h hs small =
-    ap₂ or_else (plain_taken b name v vs h hs)
-    (ap (λ (x : Walk). tail_fault (S b name) x.held) (walk_of b name (v ∷ vs) ∙ plain_walk b v vs h hs) ∙ words_fine b
-    name v vs small)
-
-pub plain_rows : (b : Bool) (name v : Text) (vs : List Text) → is_plain v ≡ true → list_all is_plain vs ≡ true
-    → rows_after (S b name).rules [] (v ∷ vs) ≡ words_row (v ∷ vs) ∷ []
-plain_rows true name v vs h hs = ap (λ (x : Walk). finished (R true) x.held) (plain_walk true v vs h hs)
-plain_rows false name v vs h hs = ap (λ (x : Walk). finished (R false) x.held) (plain_walk false v vs h hs)
-
-pub bound_walk : (n v : Text) (vs : List Text) → is_plain n ≡ true → is_plain v ≡ true → list_all is_plain vs ≡ true
-    → walk (R true) [] nothing_held (codes "--bound" ∷ n ∷ v ∷ vs) ≡ reading_words (bound_row n ∷ []) (v ∷ vs)
-bound_walk n v vs hn h hs =
-    ap (λ (x : Walk). fold (walked (R true) []) x (n ∷ v ∷ vs)) bound_word
-    ∙ ap (λ (x : Walk). fold (walked (R true) []) x (v ∷ vs)) (bound_number n (plain_is n hn))
-    ∙ ap (λ (x : Walk). fold (walked (R true) []) x vs) (behind_bound n v (plain_is v h))
-    ∙ all_words true (bound_row n ∷ []) (v ∷ []) vs hs
-
-pub bound_walk_taken : (name n v : Text) (vs : List Text) → is_plain n ≡ true → is_plain v ≡ true
-    → list_all is_plain vs ≡ true
-    → walk_fault (S true name) [] start (codes "--bound" ∷ n ∷ v ∷ vs) ≡ []
+pub ide_over : (name p s v : Text) (vs : List Text) → is_plain p ≡ true → is_plain s ≡ true → is_plain v ≡ true
+    → HasFault (fault (I name) (p ∷ s ∷ v ∷ vs))
 unfolding walk_fault
-bound_walk_taken name n v vs hn h hs =
-    ap₂ or_else (flag_taken name)
-    (ap (λ (x : Walk). walk_fault (S true name) [] x (n ∷ v ∷ vs)) bound_word
-    ∙ ap₂ or_else (bound_taken name n (plain_is n hn))
-    (ap (λ (x : Walk). walk_fault (S true name) [] x (v ∷ vs)) (bound_number n (plain_is n hn))
-    ∙ ap₂ or_else (behind_taken name n v (plain_is v h))
-    (ap (λ (x : Walk). walk_fault (S true name) [] x vs) (behind_bound n v (plain_is v h))
-    ∙ all_taken true name (bound_row n ∷ []) (v ∷ []) vs hs)))
+ide_over name p s v vs hp hs hv =
+    let end = at 3 (word_rows ide_words (p ∷ [])) (Some (codes "SCRIPT", s ∷ [])) idle in
+    let tail = tail_fault (I name) (walk (I name).rules [] nothing_held (p ∷ s ∷ v ∷ vs)).held in
+    subst HasFault (sym (ap (λ (k : Kinds). or_else k tail) (pass_then (I name) (begun None) (p ∷ s ∷ []) (v ∷ vs) end
+    (ide_read name p s hp hs))))
+    (refused (turn_fault (I name) [] end v) (walk_fault (I name) [] (walked (I name).rules [] end v) vs) tail
+    (stray (I name) 3 _ _ v hv tt))
 
-pub bound_level : (name n v : Text) (vs : List Text) → is_plain n ≡ true → is_plain v ≡ true
-    → list_all is_plain vs ≡ true → suc (length vs) ≤ usize_max
-    → fault (S true name) (codes "--bound" ∷ n ∷ v ∷ vs) ≡ []
-bound_level name n v vs hn h hs small =
-    ap₂ or_else (bound_walk_taken name n v vs hn h hs)
-    (ap (λ (x : Walk). tail_fault (S true name) x.held) (bound_walk n v vs hn h hs) ∙ bounded_fine name n v vs small)
-
-pub bound_rows : (name n v : Text) (vs : List Text) → is_plain n ≡ true → is_plain v ≡ true
-    → list_all is_plain vs ≡ true
-    → rows_after (S true name).rules [] (codes "--bound" ∷ n ∷ v ∷ vs) ≡ bound_row n ∷ words_row (v ∷ vs) ∷ []
-bound_rows name n v vs hn h hs = ap (λ (x : Walk). finished (R true) x.held) (bound_walk n v vs hn h hs)
-
--- ---- what is refused
-
-abbrev pub wanting : Kinds
-wanting = kind.MissingRequiredArgument ∷ []
-
-pub no_words : (b : Bool) (name : Text) → fault (S b name) [] ≡ wanting
-unfolding clap_on_literals
-no_words true name = refl
-no_words false name = refl
-
-pub bound_alone : (name n : Text) → is_plain n ≡ true → fault (S true name) (codes "--bound" ∷ n ∷ []) ≡ wanting
-unfolding walk_fault defaults_fault
-bound_alone name n hn =
-    ap₂ or_else
-    (ap₂ or_else (flag_taken name)
-    (ap (λ (x : Walk). walk_fault (S true name) [] x (n ∷ [])) bound_word
-    ∙ ap₂ or_else (bound_taken name n (plain_is n hn)) refl))
-    (ap (λ (x : Walk). tail_fault (S true name) x.held)
-    (ap (λ (x : Walk). fold (walked (R true) []) x (n ∷ [])) bound_word ∙ bound_number n (plain_is n hn)))
-
--- ---- a command without words
+-- ---- `show`
 
 abbrev pub alone : Text → Shape
-alone name = leaf (wordless name)
+alone name = leaf (plain_row name [])
 
-pub alone_fine : (name : Text) → fault (alone name) [] ≡ []
-unfolding clap_on_literals
-alone_fine name = refl
+pub show_fine : (name : Text) → fault (alone name) [] ≡ []
+unfolding defaults_fault
+show_fine name = level (alone name) [] _ [] (passed (alone name) _) refl
 
-pub some_refused : (k : ErrorKind) (more rest : Kinds) → length (or_else (k ∷ more) rest) ≡ suc (length more)
-some_refused k more rest = refl
-
-pub alone_refused : (name v : Text) (vs : List Text) → is_plain v ≡ true
-    → (more : Kinds) × (fault (alone name) (v ∷ vs) ≡ kind.UnknownArgument ∷ more)
+pub show_over : (name v : Text) (vs : List Text) → is_plain v ≡ true → HasFault (fault (alone name) (v ∷ vs))
 unfolding walk_fault
-alone_refused name v vs h = (
-  [],
-  ap (λ (k : Kinds). or_else (or_else k (walk_fault (alone name) [] (walked (alone name).rules [] start v) vs))
-      (tail_fault (alone name) (walk (alone name).rules [] nothing_held (v ∷ vs)).held))
-      (ap₂ or_else (no_flag (alone name) v start.held (plain_is v h))
-      (ap (fault_met (alone name)) (met [] idle v start.held (plain_is v h)))),
-)
+show_over name v vs hv =
+    refused (turn_fault (alone name) [] (begun None) v)
+    (walk_fault (alone name) [] (walked (alone name).rules [] (begun None) v) vs)
+    (tail_fault (alone name) (walk (alone name).rules [] nothing_held (v ∷ vs)).held)
+    (stray (alone name) 1 [] None v hv tt)

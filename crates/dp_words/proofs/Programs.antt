@@ -6,8 +6,8 @@ use Rattle.clap.specs.Kinds.{Kinds, or_else}
 use Rattle.clap.specs.Faults.{fault_of, entered_fault, walk_fault, turn_fault, settle_fault, defaults_fault, check_fault, other_fault, is_simple_and_free}
 use Rattle.clap.specs.Walk.{Names, Text, Walk, idle, walked, walk, nothing_held, rows_after, settled, finished, answers_to, subcommand_or_other}
 use Rattle.clap.proofs.OnLiterals.{clap_on_literals}
-use Rattle.dp_words.specs.inner.Shapes.{program}
-use Rattle.dp_words.proofs.Leaves.{S, above, alone, fault, start, met, plain_is, no_flag, fault_met}
+use Rattle.dp_words.specs.inner.Shapes.{engine_words, program, replay_words, talk_words}
+use Rattle.dp_words.proofs.Leaves.{I, P, above, alone, begun, fault, fault_met, met, no_flag, plain_is}
 use Rattle.dp_words.specs.Plain.{is_plain}
 use Rattle.clap.specs.declared.error.kind.ErrorKind.TheVariants as kind
 
@@ -16,7 +16,7 @@ names = names_of (built program)
 
 -- a command was met, and the words behind it
 abbrev pub stopped_at : Text → List Text → Walk
-stopped_at name behind = record start { stopped = Some (name, behind) }
+stopped_at name behind = record (begun None) { stopped = Some (name, behind) }
 
 pub stop_more : (name : Text) (vs ws : List Text)
     → fold (walked [] names) (stopped_at name vs) ws ≡ stopped_at name (vs ++ ws)
@@ -38,14 +38,14 @@ end_fault w =
     (check_fault above (finished [] w.held) (is_some (entered (built program) w.stopped)))))
 
 pub all_faults : (words : List Text)
-    → fault_of program words ≡ or_else (walk_fault above names start words)
+    → fault_of program words ≡ or_else (walk_fault above names (begun None) words)
     (end_fault (walk [] names nothing_held words))
 all_faults words = refl
 
 -- a command of this name, with this shape
 pub record Known (name : Text) (s : Shape) : Type 0 where
-  pub met_so : walked [] names start name ≡ stopped_at name []
-  pub taken : turn_fault above names start name ≡ []
+  pub met_so : walked [] names (begun None) name ≡ stopped_at name []
+  pub taken : turn_fault above names (begun None) name ≡ []
   pub found : (behind : List Text) → end_fault (stopped_at name behind) ≡ or_else (fault s behind) []
   pub rows : (behind : List Text)
       → entered (built program) (Some (name, behind)) ≡ Some (name, rows_after s.rules [] behind)
@@ -67,23 +67,23 @@ pub rows_known : (name : Text) (s : Shape) → Known name s → (behind : List T
 rows_known name s k behind =
     ap (λ (x : Walk). entered (built program) x.stopped) (walk_known name s k behind) ∙ k.rows behind
 
-pub run_known : Known (codes "run") (S true (codes "run"))
+pub run_known : Known (codes "run") (P (codes "run") [])
 unfolding clap_on_literals
 run_known = record { met_so = refl; taken = refl; found = λ b. refl; rows = λ b. refl }
 
-pub talk_known : Known (codes "talk") (S true (codes "talk"))
+pub talk_known : Known (codes "talk") (P (codes "talk") talk_words)
 unfolding clap_on_literals
 talk_known = record { met_so = refl; taken = refl; found = λ b. refl; rows = λ b. refl }
 
-pub engine_known : Known (codes "engine") (S true (codes "engine"))
+pub engine_known : Known (codes "engine") (P (codes "engine") engine_words)
 unfolding clap_on_literals
 engine_known = record { met_so = refl; taken = refl; found = λ b. refl; rows = λ b. refl }
 
-pub ide_known : Known (codes "ide") (S false (codes "ide"))
+pub ide_known : Known (codes "ide") (I (codes "ide"))
 unfolding clap_on_literals
 ide_known = record { met_so = refl; taken = refl; found = λ b. refl; rows = λ b. refl }
 
-pub replay_known : Known (codes "replay") (S true (codes "replay"))
+pub replay_known : Known (codes "replay") (P (codes "replay") replay_words)
 unfolding clap_on_literals
 replay_known = record { met_so = refl; taken = refl; found = λ b. refl; rows = λ b. refl }
 
@@ -102,21 +102,21 @@ stray = kind.UnknownArgument ∷ kind.InvalidSubcommand ∷ []
 -- what is wrong with a first word that names this command
 abbrev pub first_fault : Text → Option Text → Kinds
 first_fault name sub =
-    or_else (other_fault above sub name start.held) (fault_met above
-    (subcommand_or_other [] sub idle 1 name start.held))
+    or_else (other_fault above sub name (begun None).held) (fault_met above 1
+    (subcommand_or_other [] sub idle 1 name (begun None).held))
 
 pub first_unknown : (name : Text) → is_plain name ≡ true → find (answers_to name) names ≡ None
-    → turn_fault above names start name ≡ stray
+    → turn_fault above names (begun None) name ≡ stray
 first_unknown name plain none =
     ap (λ (s : Option (Text × List Text)). first_fault name (option_map (λ x. x.0) s)) none
-    ∙ ap₂ or_else (no_flag above name start.held (plain_is name plain))
-    (ap (fault_met above) (met [] idle name start.held (plain_is name plain)))
+    ∙ ap₂ or_else (no_flag above name (begun None).held (plain_is name plain))
+    (ap (fault_met above 1) (met [] idle 1 name (begun None).held (plain_is name plain)))
 
 pub unknown : (name : Text) (behind : List Text) → is_plain name ≡ true → find (answers_to name) names ≡ None
     → fault_of program (name ∷ behind) ≡ stray
 unfolding walk_fault
 unknown name behind plain none =
-    ap (λ (k : Kinds). or_else (or_else k (walk_fault above names (walked [] names start name) behind))
+    ap (λ (k : Kinds). or_else (or_else k (walk_fault above names (walked [] names (begun None) name) behind))
     (end_fault (walk [] names nothing_held (name ∷ behind))))
     (first_unknown name plain none)
 

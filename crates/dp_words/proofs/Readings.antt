@@ -1,29 +1,27 @@
 -- Words that are plain are read exactly where they may ask for something.
-use Rattle.std.proofs.Common.{◌≡◌, ◌⊎◌, ℕ, suc, ◌≤◌, Bool, true, false, ◌&&◌, ◌||◌, not, List, [], ◌∷◌, ◌++◌, length, All, Option, Some, None, refl, sym, ap, ap₂, ◌∙◌, subst, arith, codes, inl, inr}
-use Rattle.std.specs.Prelude.{⊤, if◌then◌else◌, option_map, find, get_or, drop, ◌==◌}
+use Rattle.std.proofs.Common.{◌≡◌, ◌⊎◌, ℕ, suc, ◌+◌, ◌<◌, ◌≤◌, Bool, true, false, ◌&&◌, ◌||◌, not, List, [], ◌∷◌, ◌++◌, length, All, Option, Some, None, refl, sym, ap, ap₂, ◌∙◌, subst, arith, codes, inl, inr, ⊎_elim}
+use Rattle.std.specs.Prelude.{if◌then◌else◌, find, get_or, drop, nat_lt, ◌==◌}
 use Rattle.std.specs.List.{list_all}
 use Rattle.std.specs.Str.{bytes_eq}
-use Rattle.std.specs.Option.{option_map_or}
+use Rattle.std.specs.Option.{option_map, option_map_or}
 use Rattle.std.proofs.lemmas.Slice.Eq.{bytes_eq-Decides}
+use Rattle.std.proofs.lemmas.Bool.Decides.{nat_tests}
 use Rattle.clap.specs.Kinds.{Kinds, or_else}
 use Rattle.clap.specs.Faults.{fault_of}
-use Rattle.clap.specs.Lexer.{usize_max}
 use Rattle.clap.specs.Simple.{Shape, subcommand_of}
 use Rattle.clap.specs.Walk.{Row, Text, answers_to}
 use Rattle.dp_outside.specs.Names.{IsKey}
-use Rattle.dp_words.specs.CommandLine.{Invocation, IsInvocation, Task, Address, EngineWords, IsFileWord, ReplayWords, run, talk, engine, ide, replay, show, IsIde, invocation_of, bound_limit, bound_of, default_bound, is_option, not_zero, port_limit, port_of, with_bound}
+use Rattle.dp_words.specs.CommandLine.{Invocation, IsInvocation, Task, IsFileWord, run, talk, engine, ide, replay, show, invocation_of, bound_limit, bound_of, default_bound, is_option, not_zero, port_limit, port_of, with_bound}
 use Rattle.dp_value.specs.Decimals.{decimal_in}
-use Rattle.std.proofs.lemmas.Bool.Decides.{nat_tests}
-use Rattle.dp_words.specs.inner.Parsed.{IsParsed, Parsed, invocation_in}
 use Rattle.dp_words.specs.Plain.{are_bounded, are_plain, has_bound, is_plain}
-use Rattle.dp_words.specs.inner.Rows.{rows_with}
-use Rattle.dp_words.specs.inner.Shapes.{program}
-use Rattle.dp_words.proofs.Leaves.{S, alone, alone_fine, alone_refused, both, bound_alone, bound_level, bound_rows, fault, no_words as no_words_behind, plain_level, plain_rows}
+use Rattle.dp_words.specs.inner.Given.{Given, engine_given, ide_given, replay_given, run_given, show_given, talk_given, are_plain_in, requested, bound_given, bounded, name_in, row, rows_in, words_in}
+use Rattle.dp_words.specs.inner.Shapes.{engine_words, program, replay_words, talk_words}
+use Rattle.dp_words.proofs.Leaves.{HasFault, I, P, TakesFiles, alone, begun, both, engine_lacks_1, engine_lacks_2, engine_lacks_3, engine_lacks_4, engine_read, engine_rows, engine_takes, fault, few, files, ide_fine, ide_found, ide_lacks_1, ide_lacks_2, ide_over, is_plain_bound, level, many, pass_bound, Passes, replay_lacks_1, replay_lacks_2, replay_read, replay_rows, replay_takes, rows_at_end, run_lacks_1, run_read, run_rows, run_takes, show_fine, show_over, talk_lacks_1, talk_lacks_2, talk_read, talk_rows, talk_takes, too_many, wanting}
 use Rattle.dp_words.proofs.Programs.{Known, fault_known, rows_known, run_known, talk_known, engine_known, ide_known, replay_known, show_known, names, no_words, unknown}
 
 -- ---- what tasks want
 
-abbrev name_of : Task → Text
+abbrev pub name_of : Task → Text
 name_of (run ask) = codes "run"
 name_of (talk key ask) = codes "talk"
 name_of (engine address key ask) = codes "engine"
@@ -32,7 +30,7 @@ name_of (replay events ask) = codes "replay"
 name_of show = codes "show"
 
 -- the first of the words names the task
-abbrev named : (words : List Text) (task : Task) → IsInvocation words task
+abbrev pub named : (words : List Text) (task : Task) → IsInvocation words task
     → (behind : List Text) × (words ≡ name_of task ∷ behind)
 named words (run ask) h = (h.behind, h.words_are)
 named words (talk key ask) h = (h.behind, h.words_are)
@@ -40,35 +38,6 @@ named words (engine address key ask) h = (h.behind, h.words_are)
 named words (ide port script) h = (h.number ∷ script ∷ [], h.words_are)
 named words (replay events ask) h = (h.behind, h.words_are)
 named words show h = ([], h)
-
--- a program has a file
-abbrev IsFiled : List Text → Type 0
-IsFiled behind = (ask : Invocation) × (invocation_of behind ≡ Some ask) × (1 ≤ length ask.names)
-
-abbrev WantsFiles : Task → List Text → Type 0
-WantsFiles (run ask) behind = IsFiled behind
-WantsFiles (talk key ask) behind = IsFiled behind
-WantsFiles (engine address key ask) behind = IsFiled behind
-WantsFiles (replay events ask) behind = IsFiled behind
-WantsFiles (ide port script) behind = (number : Text) × (behind ≡ number ∷ script ∷ [])
-WantsFiles show behind = behind ≡ []
-
-wants : (words : List Text) (task : Task) (h : IsInvocation words task) → WantsFiles task (named words task h).0
-wants words (run ask) h = (ask, h.follows.invocation, h.follows.files.some)
-wants words (talk key ask) h = (_, h.speaks.invocation, omega (arith))
-wants words (engine address key ask) h = (_, h.dials.invocation, omega (arith))
-wants words (replay events ask) h = (_, h.replays.invocation, omega (arith))
-wants words (ide port script) h = (h.number, refl)
-wants words show h = refl
-
-needs_files : (task : Task) (behind : List Text) → has_bound (name_of task) ≡ true → WantsFiles task behind
-    → IsFiled behind
-needs_files (run ask) behind e h = h
-needs_files (talk key ask) behind e h = h
-needs_files (engine address key ask) behind e h = h
-needs_files (replay events ask) behind e h = h
-needs_files (ide port script) behind e h = absurd cc
-needs_files show behind e h = absurd cc
 
 -- the name and the words behind it
 module _ (name : Text) (behind : List Text) (task : Task) (asks : IsInvocation (name ∷ behind) task) where
@@ -81,16 +50,103 @@ module _ (name : Text) (behind : List Text) (task : Task) (asks : IsInvocation (
   same_behind : behind ≡ (named (name ∷ behind) task asks).0
   same_behind = ap (λ (l : List Text). drop 1 l) whole
 
+-- the fewest words behind a command that runs a program, a bound aside
+abbrev least : Text → ℕ
+least name =
+    if bytes_eq name (codes "talk") then 2
+    else (if bytes_eq name (codes "engine") then 4 else (if bytes_eq name (codes "replay") then 2 else 1))
+
+-- so many words stand behind it
+record IsCounted (name : Text) (behind : List Text) : Type 0 where
+  pub ask : Invocation
+  pub asks : invocation_of behind ≡ Some ask
+  pub enough : least name ≤ length ask.names
+  pub few : length ask.names ≤ least name + 63
+
+counted_for : (task : Task) (words : List Text) (h : IsInvocation words task) → has_bound (name_of task) ≡ true
+    → IsCounted (name_of task) (named words task h).0
+counted_for (run ask) words h b =
+    record { ask = ask; asks = h.follows.invocation; enough = h.follows.files.some; few = h.follows.files.few }
+counted_for (talk key ask) words h b =
+    let f = h.speaks.session.files in
+    record {
+      ask = record { bound = ask.bound; names = key ∷ ask.names };
+      asks = h.speaks.invocation;
+      enough = omega (arith, f.some);
+      few = omega (arith, f.few);
+    }
+counted_for (engine address key ask) words h b =
+    let f = h.dials.session.files in
+    record {
+      ask = record { bound = ask.bound; names = address.host ∷ h.dials.number ∷ key ∷ ask.names };
+      asks = h.dials.invocation;
+      enough = omega (arith, f.some);
+      few = omega (arith, f.few);
+    }
+counted_for (replay events ask) words h b =
+    let f = h.replays.files in
+    record {
+      ask = record { bound = ask.bound; names = events ∷ ask.names };
+      asks = h.replays.invocation;
+      enough = omega (arith, f.some);
+      few = omega (arith, f.few);
+    }
+counted_for (ide port script) words h b = absurd cc
+counted_for show words h b = absurd cc
+
+counted : (name : Text) (behind : List Text) (task : Task) → has_bound name ≡ true → IsInvocation (name ∷ behind) task
+    → IsCounted name behind
+counted name behind task has asks =
+    let is = same_name name behind task asks in
+    subst (λ (n : Text). IsCounted n behind) (sym is)
+    (subst (IsCounted (name_of task)) (sym (same_behind name behind task asks))
+    (counted_for task (name ∷ behind) asks (subst (λ (n : Text). has_bound n ≡ true) is has)))
+
+not_bound : (v : Text) → is_plain v ≡ true → bytes_eq v (codes "--bound") ≡ false
+not_bound [] h = absurd cc
+not_bound (b ∷ bs) h = by (b == 45) refl h where
+  by : (t : Bool) → (b == 45) ≡ t → not t ≡ true → bytes_eq (b ∷ bs) (codes "--bound") ≡ false
+  by true e n = absurd cc
+  by false e n = ap (λ (t : Bool). t && bytes_eq bs (codes "-bound")) e
+
+-- what words behind a bound, or without one, ask for
+pub invoked : (bound : Option Text) (words : List Text) → list_all is_plain words ≡ true
+    → invocation_of (bounded bound words) ≡ requested bound words
+invoked (Some n) words h = refl
+invoked None [] h = refl
+invoked None (v ∷ vs) h =
+    ap (λ (t : Bool). if t then with_bound vs else Some (record { bound = default_bound; names = v ∷ vs }))
+    (not_bound v (both (is_plain v) (list_all is_plain vs) h).0)
+
+asked_names : (bound : Option Text) (words : List Text) (ask : Invocation) → requested bound words ≡ Some ask
+    → words ≡ ask.names
+asked_names bound words ask e = by (bound_given bound) e where
+  by : (o : Option ℕ) → option_map (λ n. record { bound = n; names = words }) o ≡ Some ask → words ≡ ask.names
+  by None none = absurd cc
+  by (Some n) some = ap (λ (i : Option Invocation). option_map_or (λ (a : Invocation). a.names) i words) some
+
+-- no task is asked for by fewer words, or by more
+outside : (name : Text) (bound : Option Text) (words : List Text) (n : ℕ) → has_bound name ≡ true → least name ≡ n
+    → list_all is_plain words ≡ true → (length words < n) ⊎ (n + 63 < length words) → (task : Task)
+    → IsInvocation (name ∷ bounded bound words) task → ⊥
+outside name bound words n has is plain out task asks =
+    let c = counted name (bounded bound words) task has asks in
+    let same : length words ≡ length c.ask.names =
+    ap (λ (l : List Text). length l) (asked_names bound words c.ask (sym (invoked bound words plain) ∙ c.asks)) in
+    by same c.enough c.few out where
+      by : {l : ℕ} → length words ≡ l → least name ≤ l → l ≤ least name + 63
+          → (length words < n) ⊎ (n + 63 < length words) → ⊥
+      by same enough few (inl below) = omega (arith, same, enough, is, below)
+      by same enough few (inr above) = omega (arith, same, few, is, above)
+
 -- ---- what is read
 
-abbrev pub IsRead : List Text → Type 0
-IsRead words =
-    (fault_of program words ≡ []) × (p : Parsed) × IsParsed words p × (front : List Text) × (words ≡ front ++ p.words)
-    × (subcommand_of program words ≡ Some (p.name, rows_with p.bound p.words))
-
-abbrev pub HasFault : Kinds → Type 0
-HasFault [] = ⊥
-HasFault (k ∷ ks) = ⊤
+pub record IsRead (words : List Text) : Type 0 where
+  pub given : Given
+  pub words_are : words ≡ words_in given
+  pub plain : are_plain_in given ≡ true
+  pub fine : fault_of program words ≡ []
+  pub rows : subcommand_of program words ≡ Some (name_in given, rows_in given)
 
 abbrev pub IsUnread : List Text → Type 0
 IsUnread words = HasFault (fault_of program words) × ((task : Task) → IsInvocation words task → ⊥)
@@ -103,112 +159,184 @@ faulty : (name : Text) (s : Shape) → Known name s → (behind : List Text) (k 
 faulty name s known behind k has is =
     subst HasFault (sym (fault_known name s known behind ∙ ap (λ (f : Kinds). or_else f []) is)) has
 
--- no task is asked for where no file can be
-no_files : (name : Text) → has_bound name ≡ true → (behind : List Text)
-    → ((ask : Invocation) → invocation_of behind ≡ Some ask → 1 ≤ length ask.names → ⊥) → (task : Task)
-    → IsInvocation (name ∷ behind) task
-    → ⊥
-no_files name has behind none task asks =
-    let filed = needs_files task (named (name ∷ behind) task asks).0
-    (subst (λ (n : Text). has_bound n ≡ true) (same_name name behind task asks) has)
-    (wants (name ∷ behind) task asks) in
-    none filed.0 (ap invocation_of (same_behind name behind task asks) ∙ filed.1) filed.2
+-- a fault of its own, whatever it is
+faulty_so : (name : Text) (s : Shape) → Known name s → (behind : List Text) → HasFault (fault s behind)
+    → HasFault (fault_of program (name ∷ behind))
+faulty_so name s known behind has = by (fault s behind) refl has where
+  by : (k : Kinds) → fault s behind ≡ k → HasFault k → HasFault (fault_of program (name ∷ behind))
+  by [] is none = absurd none
+  by (k ∷ ks) is some = faulty name s known behind (k ∷ ks) tt is
 
-not_bound : (v : Text) → is_plain v ≡ true → bytes_eq v (codes "--bound") ≡ false
-not_bound [] h = absurd cc
-not_bound (b ∷ bs) h = by (b == 45) refl h where
-  by : (t : Bool) → (b == 45) ≡ t → not t ≡ true → bytes_eq (b ∷ bs) (codes "--bound") ≡ false
-  by true e n = absurd cc
-  by false e n = ap (λ (t : Bool). t && bytes_eq bs (codes "-bound")) e
+fine_known : (name : Text) (s : Shape) → Known name s → (behind : List Text) → fault s behind ≡ []
+    → fault_of program (name ∷ behind) ≡ []
+fine_known name s known behind is = fault_known name s known behind ∙ ap (λ (f : Kinds). or_else f []) is
 
-module _ (b : Bool) (name : Text) (known : Known name (S b name)) (v : Text) (vs : List Text)
-    (h : is_plain v ≡ true) (hs : list_all is_plain vs ≡ true) (small : suc (length vs) ≤ usize_max) where
-  plain_asked : invocation_of (v ∷ vs) ≡ Some (record { bound = default_bound; names = v ∷ vs })
-  plain_asked =
-      ap (λ (t : Bool). if t then with_bound vs else Some (record { bound = default_bound; names = v ∷ vs }))
-      (not_bound v h)
+-- no more files than a program may have, or more
+fits_or_not : (n : ℕ) → (suc n ≤ 64) ⊎ (65 ≤ suc n)
+fits_or_not n = by (nat_lt n 64) refl where
+  by : (t : Bool) → nat_lt n 64 ≡ t → (suc n ≤ 64) ⊎ (65 ≤ suc n)
+  by true e = inl (grind (arith, nat_tests))
+  by false e = inr (grind (arith, nat_tests))
 
-  plain_read : Reading (name ∷ v ∷ vs)
-  plain_read = inl (
-    fault_known name (S b name) known (v ∷ vs) ∙ ap (λ (f : Kinds). or_else f []) (plain_level b name v vs h hs small),
-    record { name = name; bound = None; words = v ∷ vs },
-    record {
-      behind = v ∷ vs;
-      words_are = refl;
-      invocation = plain_asked;
-      unbound = λ e. refl;
-      bounded = λ n e. absurd cc;
-    },
-    name ∷ [],
-    refl,
-    rows_known name (S b name) known (v ∷ vs) ∙ ap (λ (r : List Row). Some (name, r)) (plain_rows b name v vs h hs),
-  )
+-- files behind all other words of a command
+module _ (name : Text) (ids : List Text) (known : Known name (P name ids)) (bound : Option Text) (first : List Text)
+    (position : ℕ) (rows : List Row) (takes : TakesFiles (P name ids) position rows) (f : Text) (fs : List Text)
+    (hb : is_plain_bound bound ≡ true)
+    (passes : Passes (P name ids) (begun bound) (first ++ f ∷ fs) (files position rows (f ∷ fs))) where
+  abbrev behind : List Text
+  behind = bounded bound (first ++ f ∷ fs)
 
-module _ (name : Text) (has : has_bound name ≡ true) (known : Known name (S true name)) where
-  none_read : Reading (name ∷ [])
-  none_read = inr (
-    faulty name (S true name) known [] _ tt (no_words_behind true name),
-    no_files name has [] (λ ask e some. absurd (omega (
-      arith,
-      some,
-      ap
-          (λ (o : Option Invocation). option_map_or (λ (a : Invocation). length a.names) o 0) e,
-    ))),
-  )
+  through : Passes (P name ids) (begun None) behind (files position rows (f ∷ fs))
+  through = pass_bound name ids bound (first ++ f ∷ fs) (files position rows (f ∷ fs)) hb passes
 
-  bound_read : (number : Text) (words : List Text) → is_plain number ≡ true → list_all is_plain words ≡ true
-      → length words ≤ usize_max
-      → Reading (name ∷ codes "--bound" ∷ number ∷ words)
-  bound_read number [] hn hs small = inr (
-    faulty name (S true name) known (codes "--bound" ∷ number ∷ []) _ tt (bound_alone name number hn),
-    no_files name has (codes "--bound" ∷ number ∷ []) (λ ask e some. without (bound_of number) ask e some),
-  ) where
-    without : (bound : Option ℕ) (ask : Invocation)
-        → option_map (λ n. record { bound = n; names = [] }) bound ≡ Some ask
-        → 1 ≤ length ask.names → ⊥
-    without None ask e some = absurd cc
-    without (Some n) ask e some =
-        absurd (omega (
-          arith,
-          some,
-          ap (λ (o : Option Invocation). option_map_or
-              (λ (a : Invocation). length a.names) o 0) e,
-        ))
-  bound_read number (v ∷ vs) hn hs small =
-      let parts = both (is_plain v) (list_all is_plain vs) hs in inl (
-        fault_known name (S true name) known (codes "--bound" ∷ number ∷ v ∷ vs)
-            ∙ ap (λ (f : Kinds). or_else f []) (bound_level name number v vs hn parts.0 parts.1 small),
-        record { name = name; bound = Some number; words = v ∷ vs },
-        record {
-          behind = codes "--bound" ∷ number ∷ v
-              ∷ vs;
-          words_are = refl;
-          invocation = refl;
-          unbound = λ e. absurd cc;
-          bounded = λ n e. ap
-              (λ (o : Option Text). codes "--bound" ∷ option_map_or (λ (x : Text). x) o [] ∷ v ∷ vs) e;
-        },
-        name ∷ codes "--bound" ∷ number ∷ [],
-        refl,
-        rows_known name (S true name) known (codes "--bound" ∷ number ∷ v ∷ vs)
-            ∙ ap (λ (r : List Row). Some (name, r)) (bound_rows name number v vs hn parts.0 parts.1),
-      )
+  fine_files : suc (length fs) ≤ 64 → fault_of program (name ∷ behind) ≡ []
+  fine_files small =
+      fine_known name (P name ids) known behind (level (P name ids) behind (files position rows (f ∷ fs)) [] through
+      (takes.fits f fs [] (few (length fs) small)))
 
-  bounded_read : (behind : List Text) → are_bounded behind ≡ true → length behind ≤ usize_max → Reading (name ∷ behind)
-  bounded_read [] h small = none_read
-  bounded_read (word ∷ []) h small = plain_read true name known word [] h refl small
-  bounded_read (word ∷ number ∷ words) h small = by (bytes_eq word (codes "--bound")) refl h where
-    by : (t : Bool) → bytes_eq word (codes "--bound") ≡ t
-        → (if t then (is_plain number && list_all is_plain words)
-        else (is_plain word && (is_plain number && list_all is_plain words))) ≡ true
-        → Reading (name ∷ word ∷ number ∷ words)
-    by true e fits =
-        let parts = both (is_plain number) (list_all is_plain words) fits in
-        subst (λ (w : Text). Reading (name ∷ w ∷ number ∷ words)) (sym ((bytes_eq-Decides word (codes "--bound")).0 e))
-        (bound_read number words parts.0 parts.1 (omega (arith, small)))
-    by false e fits =
-        let parts = both (is_plain word) (is_plain number && list_all is_plain words) fits in
-        plain_read true name known word (number ∷ words) parts.0 parts.1 small
+  over_files : 65 ≤ suc (length fs) → HasFault (fault_of program (name ∷ behind))
+  over_files large =
+      faulty name (P name ids) known behind too_many tt (level (P name ids) behind (files position rows (f ∷ fs))
+      too_many through (takes.fits f fs too_many (many (length fs) large)))
+
+  rows_found : subcommand_of program (name ∷ behind) ≡ Some (name, rows ++ row (codes "FILE") (f ∷ fs) ∷ [])
+  rows_found =
+      rows_known name (P name ids) known behind
+      ∙ ap (λ (r : List Row). Some (name, r)) (rows_at_end (P name ids) behind (files position rows (f ∷ fs)) through
+      ∙ takes.found f fs)
+
+  -- the files are read, unless there are too many
+  files_reads : (g : Given) → name ∷ behind ≡ words_in g → are_plain_in g ≡ true
+      → name ≡ name_in g → rows ++ row (codes "FILE") (f ∷ fs) ∷ [] ≡ rows_in g
+      → (65 ≤ suc (length fs) → (task : Task) → IsInvocation (name ∷ behind) task → ⊥)
+      → Reading (name ∷ behind)
+  files_reads g is plain named found out =
+      ⊎_elim
+      (λ small. inl (record {
+        given = g;
+        words_are = is;
+        plain = plain;
+        fine = fine_files small;
+        rows = rows_found ∙ ap₂ (λ (n : Text) (r : List Row). Some (n, r)) named found;
+      })) (λ large. inr (over_files large, out large)) (fits_or_not (length fs))
+
+-- ---- `run`
+
+run_reads : (bound : Option Text) (words : List Text) → is_plain_bound bound ≡ true → list_all is_plain words ≡ true
+    → Reading (codes "run" ∷ bounded bound words)
+run_reads bound [] hb hs =
+    inr (
+      faulty (codes "run") (P (codes "run") []) run_known (bounded bound []) wanting tt
+          (run_lacks_1 (codes "run") bound hb),
+      outside (codes "run") bound [] 1 refl refl hs (inl (omega arith)),
+    )
+run_reads bound (f ∷ fs) hb hs =
+    let q0 = both (is_plain f) (list_all is_plain fs) hs in
+    files_reads (codes "run") [] run_known bound [] 1 (run_rows bound)
+    (run_takes (codes "run") bound) f fs hb
+    (run_read (codes "run") bound f fs q0.0 q0.1)
+    (run_given bound (f ∷ fs)) refl hs refl refl
+    (λ large. outside (codes "run") bound (f ∷ fs) 1 refl refl hs (inr (omega (arith, large))))
+
+-- ---- `talk`
+
+talk_reads : (bound : Option Text) (words : List Text) → is_plain_bound bound ≡ true → list_all is_plain words ≡ true
+    → Reading (codes "talk" ∷ bounded bound words)
+talk_reads bound [] hb hs =
+    inr (
+      faulty (codes "talk") (P (codes "talk") talk_words) talk_known (bounded bound []) wanting tt
+          (talk_lacks_2 (codes "talk") bound hb),
+      outside (codes "talk") bound [] 2 refl refl hs (inl (omega arith)),
+    )
+talk_reads bound (k ∷ []) hb hs =
+    let q0 = both (is_plain k) (list_all is_plain []) hs in
+    inr (
+      faulty (codes "talk") (P (codes "talk") talk_words) talk_known (bounded bound (k ∷ [])) wanting tt
+          (talk_lacks_1 (codes "talk") bound k hb q0.0),
+      outside (codes "talk") bound (k ∷ []) 2 refl refl hs (inl (omega arith)),
+    )
+talk_reads bound (k ∷ f ∷ fs) hb hs =
+    let q0 = both (is_plain k) (list_all is_plain (f ∷ fs)) hs in
+    let q1 = both (is_plain f) (list_all is_plain fs) q0.1 in
+    files_reads (codes "talk") talk_words talk_known bound (k ∷ []) 2 (talk_rows bound k)
+    (talk_takes (codes "talk") bound k) f fs hb
+    (talk_read (codes "talk") bound k f fs q0.0 q1.0 q1.1)
+    (talk_given bound k (f ∷ fs)) refl hs refl refl
+    (λ large. outside (codes "talk") bound (k ∷ f ∷ fs) 2 refl refl hs (inr (omega (arith, large))))
+
+-- ---- `engine`
+
+engine_reads : (bound : Option Text) (words : List Text) → is_plain_bound bound ≡ true
+    → list_all is_plain words ≡ true
+    → Reading (codes "engine" ∷ bounded bound words)
+engine_reads bound [] hb hs =
+    inr (
+      faulty (codes "engine") (P (codes "engine") engine_words) engine_known (bounded bound []) wanting tt
+          (engine_lacks_4 (codes "engine") bound hb),
+      outside (codes "engine") bound [] 4 refl refl hs (inl (omega arith)),
+    )
+engine_reads bound (h ∷ []) hb hs =
+    let q0 = both (is_plain h) (list_all is_plain []) hs in
+    inr (
+      faulty (codes "engine") (P (codes "engine") engine_words) engine_known (bounded bound (h ∷ [])) wanting tt
+          (engine_lacks_3 (codes "engine") bound h hb q0.0),
+      outside (codes "engine") bound (h ∷ []) 4 refl refl hs (inl (omega arith)),
+    )
+engine_reads bound (h ∷ p ∷ []) hb hs =
+    let q0 = both (is_plain h) (list_all is_plain (p ∷ [])) hs in
+    let q1 = both (is_plain p) (list_all is_plain []) q0.1 in
+    inr (
+      faulty (codes "engine") (P (codes "engine") engine_words) engine_known (bounded bound (h ∷ p ∷ [])) wanting tt
+          (engine_lacks_2 (codes "engine") bound h p hb q0.0 q1.0),
+      outside (codes "engine") bound (h ∷ p ∷ []) 4 refl refl hs (inl (omega arith)),
+    )
+engine_reads bound (h ∷ p ∷ k ∷ []) hb hs =
+    let q0 = both (is_plain h) (list_all is_plain (p ∷ k ∷ [])) hs in
+    let q1 = both (is_plain p) (list_all is_plain (k ∷ [])) q0.1 in
+    let q2 = both (is_plain k) (list_all is_plain []) q1.1 in
+    inr (
+      faulty (codes "engine") (P (codes "engine") engine_words) engine_known (bounded bound (h ∷ p ∷ k ∷ []))
+          wanting tt
+          (engine_lacks_1 (codes "engine") bound h p k hb q0.0 q1.0 q2.0),
+      outside (codes "engine") bound (h ∷ p ∷ k ∷ []) 4 refl refl hs (inl (omega arith)),
+    )
+engine_reads bound (h ∷ p ∷ k ∷ f ∷ fs) hb hs =
+    let q0 = both (is_plain h) (list_all is_plain (p ∷ k ∷ f ∷ fs)) hs in
+    let q1 = both (is_plain p) (list_all is_plain (k ∷ f ∷ fs)) q0.1 in
+    let q2 = both (is_plain k) (list_all is_plain (f ∷ fs)) q1.1 in
+    let q3 = both (is_plain f) (list_all is_plain fs) q2.1 in
+    files_reads (codes "engine") engine_words engine_known bound (h ∷ p ∷ k ∷ []) 4 (engine_rows bound h p k)
+    (engine_takes (codes "engine") bound h p k) f fs hb
+    (engine_read (codes "engine") bound h p k f fs q0.0 q1.0 q2.0 q3.0 q3.1)
+    (engine_given bound h p k (f ∷ fs)) refl hs refl refl
+    (λ large. outside (codes "engine") bound (h ∷ p ∷ k ∷ f ∷ fs) 4 refl refl hs (inr (omega (arith, large))))
+
+-- ---- `replay`
+
+replay_reads : (bound : Option Text) (words : List Text) → is_plain_bound bound ≡ true
+    → list_all is_plain words ≡ true
+    → Reading (codes "replay" ∷ bounded bound words)
+replay_reads bound [] hb hs =
+    inr (
+      faulty (codes "replay") (P (codes "replay") replay_words) replay_known (bounded bound []) wanting tt
+          (replay_lacks_2 (codes "replay") bound hb),
+      outside (codes "replay") bound [] 2 refl refl hs (inl (omega arith)),
+    )
+replay_reads bound (e ∷ []) hb hs =
+    let q0 = both (is_plain e) (list_all is_plain []) hs in
+    inr (
+      faulty (codes "replay") (P (codes "replay") replay_words) replay_known (bounded bound (e ∷ [])) wanting tt
+          (replay_lacks_1 (codes "replay") bound e hb q0.0),
+      outside (codes "replay") bound (e ∷ []) 2 refl refl hs (inl (omega arith)),
+    )
+replay_reads bound (e ∷ f ∷ fs) hb hs =
+    let q0 = both (is_plain e) (list_all is_plain (f ∷ fs)) hs in
+    let q1 = both (is_plain f) (list_all is_plain fs) q0.1 in
+    files_reads (codes "replay") replay_words replay_known bound (e ∷ []) 2 (replay_rows bound e)
+    (replay_takes (codes "replay") bound e) f fs hb
+    (replay_read (codes "replay") bound e f fs q0.0 q1.0 q1.1)
+    (replay_given bound e (f ∷ fs)) refl hs refl refl
+    (λ large. outside (codes "replay") bound (e ∷ f ∷ fs) 2 refl refl hs (inr (omega (arith, large))))
 
 -- ---- the other commands
 
@@ -216,22 +344,78 @@ module _ (name : Text) (has : has_bound name ≡ true) (known : Known name (S tr
 is_name : (name other : Text) → name ≡ other → bytes_eq other name ≡ true
 is_name name other e = (bytes_eq-Decides other name).1 (sym e)
 
-no_ide : (task : Task) → codes "ide" ≡ name_of task → (behind : List Text) → WantsFiles task behind → behind ≡ [] → ⊥
-no_ide (ide port script) e behind w nil =
-    let two : _ ≡ [] = sym w.1 ∙ nil in absurd (omega (arith, ap (λ (l : List Text). length l) two))
-no_ide (run ask) e behind w nil = let t : false ≡ true = is_name (codes "ide") _ e in absurd cc
-no_ide (talk key ask) e behind w nil = let t : false ≡ true = is_name (codes "ide") _ e in absurd cc
-no_ide (engine address key ask) e behind w nil = let t : false ≡ true = is_name (codes "ide") _ e in absurd cc
-no_ide (replay events ask) e behind w nil = let t : false ≡ true = is_name (codes "ide") _ e in absurd cc
-no_ide show e behind w nil = let t : false ≡ true = is_name (codes "ide") _ e in absurd cc
+behind_ide : (task : Task) (words : List Text) (h : IsInvocation words task) → codes "ide" ≡ name_of task
+    → length (named words task h).0 ≡ 2
+behind_ide (ide port script) words h e = refl
+behind_ide (run ask) words h e = let t : false ≡ true = is_name (codes "ide") _ e in absurd cc
+behind_ide (talk key ask) words h e = let t : false ≡ true = is_name (codes "ide") _ e in absurd cc
+behind_ide (engine address key ask) words h e = let t : false ≡ true = is_name (codes "ide") _ e in absurd cc
+behind_ide (replay events ask) words h e = let t : false ≡ true = is_name (codes "ide") _ e in absurd cc
+behind_ide show words h e = let t : false ≡ true = is_name (codes "ide") _ e in absurd cc
 
-no_show : (task : Task) → codes "show" ≡ name_of task → (behind : List Text) → WantsFiles task behind → behind ≡ []
-no_show show e behind w = w
-no_show (ide port script) e behind w = let t : false ≡ true = is_name (codes "show") _ e in absurd cc
-no_show (replay events ask) e behind w = let t : false ≡ true = is_name (codes "show") _ e in absurd cc
-no_show (run ask) e behind w = let t : false ≡ true = is_name (codes "show") _ e in absurd cc
-no_show (talk key ask) e behind w = let t : false ≡ true = is_name (codes "show") _ e in absurd cc
-no_show (engine address key ask) e behind w = let t : false ≡ true = is_name (codes "show") _ e in absurd cc
+behind_show : (task : Task) (words : List Text) (h : IsInvocation words task) → codes "show" ≡ name_of task
+    → length (named words task h).0 ≡ 0
+behind_show show words h e = refl
+behind_show (run ask) words h e = let t : false ≡ true = is_name (codes "show") _ e in absurd cc
+behind_show (talk key ask) words h e = let t : false ≡ true = is_name (codes "show") _ e in absurd cc
+behind_show (engine address key ask) words h e = let t : false ≡ true = is_name (codes "show") _ e in absurd cc
+behind_show (ide port script) words h e = let t : false ≡ true = is_name (codes "show") _ e in absurd cc
+behind_show (replay events ask) words h e = let t : false ≡ true = is_name (codes "show") _ e in absurd cc
+
+not_two : (behind : List Text) → (length behind ≡ 2 → ⊥) → (task : Task)
+    → IsInvocation (codes "ide" ∷ behind) task → ⊥
+not_two behind not_so task asks =
+    not_so (ap (λ (l : List Text). length l) (same_behind (codes "ide") behind task asks)
+    ∙ behind_ide task (codes "ide" ∷ behind) asks (same_name (codes "ide") behind task asks))
+
+ide_reads : (behind : List Text) → list_all is_plain behind ≡ true → Reading (codes "ide" ∷ behind)
+ide_reads [] h = inr (
+  faulty (codes "ide") (I (codes "ide")) ide_known [] wanting tt (ide_lacks_2 (codes "ide")),
+  not_two [] (λ e. omega (arith, e)),
+)
+ide_reads (p ∷ []) h = inr (
+  faulty (codes "ide") (I (codes "ide")) ide_known (p ∷ []) wanting tt
+      (ide_lacks_1 (codes "ide") p (both (is_plain p) true h).0),
+  not_two (p ∷ []) (λ e. omega (arith, e)),
+)
+ide_reads (p ∷ s ∷ []) h =
+    let q = both (is_plain p) (list_all is_plain (s ∷ [])) h in
+    let hs = (both (is_plain s) true q.1).0 in
+    inl (record {
+      given = ide_given p s;
+      words_are = refl;
+      plain = h;
+      fine = fine_known (codes "ide") (I (codes "ide")) ide_known (p ∷ s ∷ []) (ide_fine (codes "ide") p s q.0 hs);
+      rows = rows_known (codes "ide") (I (codes "ide")) ide_known (p ∷ s ∷ [])
+          ∙ ap (λ (r : List Row). Some (codes "ide", r)) (ide_found (codes "ide") p s q.0 hs);
+    })
+ide_reads (p ∷ s ∷ v ∷ vs) h =
+    let q = both (is_plain p) (list_all is_plain (s ∷ v ∷ vs)) h in
+    let r = both (is_plain s) (list_all is_plain (v ∷ vs)) q.1 in
+    let t = both (is_plain v) (list_all is_plain vs) r.1 in
+    inr (
+      faulty_so (codes "ide") (I (codes "ide")) ide_known (p ∷ s ∷ v ∷ vs) (ide_over (codes "ide") p s v vs q.0 r.0
+          t.0),
+      not_two (p ∷ s ∷ v ∷ vs) (λ e. omega (arith, e)),
+    )
+
+show_reads : (behind : List Text) → list_all is_plain behind ≡ true → Reading (codes "show" ∷ behind)
+show_reads [] h = inl (record {
+  given = show_given;
+  words_are = refl;
+  plain = refl;
+  fine = fine_known (codes "show") (alone (codes "show")) show_known [] (show_fine (codes "show"));
+  rows = rows_known (codes "show") (alone (codes "show")) show_known [];
+})
+show_reads (v ∷ vs) h = inr (
+  faulty_so (codes "show") (alone (codes "show")) show_known (v ∷ vs)
+      (show_over (codes "show") v vs (both (is_plain v) (list_all is_plain vs) h).0),
+  λ task asks.
+      let none : length (v ∷ vs) ≡ 0 = ap (λ (l : List Text). length l) (same_behind (codes "show") (v ∷ vs) task
+      asks)
+      ∙ behind_show task (codes "show" ∷ v ∷ vs) asks (same_name (codes "show") (v ∷ vs) task asks) in
+      absurd (omega (arith, none)),
+)
 
 no_command : (task : Task) → find (answers_to (name_of task)) names ≡ None → ⊥
 no_command (run ask) e = absurd cc
@@ -241,36 +425,39 @@ no_command (ide port script) e = absurd cc
 no_command (replay events ask) e = absurd cc
 no_command show e = absurd cc
 
-ide_read : (behind : List Text) → list_all is_plain behind ≡ true → length behind ≤ usize_max
-    → Reading (codes "ide" ∷ behind)
-ide_read [] h small = inr (
-  faulty (codes "ide") (S false (codes "ide")) ide_known [] _ tt (no_words_behind false (codes "ide")),
-  λ task asks. no_ide task (same_name (codes "ide") [] task asks) _ (wants (codes "ide" ∷ []) task asks)
-      (sym (same_behind (codes "ide") [] task asks)),
-)
-ide_read (v ∷ vs) h small =
-    let parts = both (is_plain v) (list_all is_plain vs) h in
-    plain_read false (codes "ide") ide_known v vs parts.0 parts.1 small
+-- a bound and the words behind it
+record Split (behind : List Text) : Type 0 where
+  pub bound : Option Text
+  pub words : List Text
+  pub is : bounded bound words ≡ behind
+  pub plain_bound : is_plain_bound bound ≡ true
+  pub plain : list_all is_plain words ≡ true
 
-show_read : (behind : List Text) → list_all is_plain behind ≡ true → Reading (codes "show" ∷ behind)
-show_read [] h = inl (
-  fault_known (codes "show") (alone (codes "show")) show_known [] ∙ ap (λ (f : Kinds). or_else f [])
-      (alone_fine (codes "show")),
-  record { name = codes "show"; bound = None; words = [] },
-  record { behind = []; words_are = refl; invocation = refl; unbound = λ e. refl; bounded = λ n e. absurd cc },
-  codes "show" ∷ [],
-  refl,
-  rows_known (codes "show") (alone (codes "show")) show_known [],
-)
-show_read (v ∷ vs) h =
-    let parts = both (is_plain v) (list_all is_plain vs) h in
-    let refused = alone_refused (codes "show") v vs parts.0 in inr (
-      faulty (codes "show") (alone (codes "show")) show_known (v ∷ vs) _ tt refused.1,
-      λ task asks.
-          let none : v ∷ vs ≡ [] = same_behind (codes "show") (v ∷ vs) task asks
-          ∙ no_show task (same_name (codes "show") (v ∷ vs) task asks) _ (wants (codes "show" ∷ v ∷ vs) task asks) in
-          absurd (omega (arith, ap (λ (l : List Text). length l) none)),
-    )
+split : (behind : List Text) → are_bounded behind ≡ true → Split behind
+split [] h = record { bound = None; words = []; is = refl; plain_bound = refl; plain = refl }
+split (word ∷ []) h = record {
+  bound = None;
+  words = word ∷ [];
+  is = refl;
+  plain_bound = refl;
+  plain = ap (λ (t : Bool). t && true) h;
+}
+split (word ∷ number ∷ words) h = by (bytes_eq word (codes "--bound")) refl h where
+  by : (t : Bool) → bytes_eq word (codes "--bound") ≡ t
+      → (if t then (is_plain number && list_all is_plain words)
+      else (is_plain word && (is_plain number && list_all is_plain words))) ≡ true
+      → Split (word ∷ number ∷ words)
+  by true e fits =
+      let parts = both (is_plain number) (list_all is_plain words) fits in
+      record {
+        bound = Some number;
+        words = words;
+        is = ap (λ (w : Text). w ∷ number ∷ words) (sym ((bytes_eq-Decides word (codes "--bound")).0 e));
+        plain_bound = parts.0;
+        plain = parts.1;
+      }
+  by false e fits =
+      record { bound = None; words = word ∷ number ∷ words; is = refl; plain_bound = refl; plain = fits }
 
 -- ---- all words
 
@@ -294,33 +481,41 @@ found_by a b c d e f =
 abbrev fits : Text → List Text → Type 0
 fits name behind = (if has_bound name then are_bounded behind else list_all is_plain behind) ≡ true
 
-pub reads : (words : List Text) → are_plain words ≡ true → length words ≤ usize_max → Reading words
-reads [] h small =
+-- a command that may have a bound
+split_reads : (name : Text) (behind : List Text) → are_bounded behind ≡ true
+    → ((bound : Option Text) (words : List Text) → is_plain_bound bound ≡ true → list_all is_plain words ≡ true
+    → Reading (name ∷ bounded bound words)) → Reading (name ∷ behind)
+split_reads name behind h reads_so =
+    let s = split behind h in
+    subst (λ (l : List Text). Reading (name ∷ l)) s.is (reads_so s.bound s.words s.plain_bound s.plain)
+
+pub reads : (words : List Text) → are_plain words ≡ true → Reading words
+reads [] h =
     inr (
       subst HasFault (sym no_words) tt,
       λ task asks. absurd
           (omega (arith, ap (λ (l : List Text). length l) (named [] task asks).1)),
     )
-reads (name ∷ behind) h small =
+reads (name ∷ behind) h =
     let parts = both (is_plain name) (if has_bound name then are_bounded behind else list_all is_plain behind) h in
-    let few : length behind ≤ usize_max = omega (arith, small) in
     choose (codes "run") name
     (λ e. subst (λ n. fits n behind → Reading (n ∷ behind)) e
-    (λ f. bounded_read (codes "run") refl run_known behind f few) parts.1) (λ no_run.
+    (λ f. split_reads (codes "run") behind f run_reads) parts.1) (λ no_run.
     choose (codes "talk") name
     (λ e. subst (λ n. fits n behind → Reading (n ∷ behind)) e
-    (λ f. bounded_read (codes "talk") refl talk_known behind f few) parts.1) (λ no_talk.
+    (λ f. split_reads (codes "talk") behind f talk_reads) parts.1) (λ no_talk.
     choose (codes "engine") name
     (λ e. subst (λ n. fits n behind → Reading (n ∷ behind)) e
-    (λ f. bounded_read (codes "engine") refl engine_known behind f few) parts.1) (λ no_engine.
+    (λ f. split_reads (codes "engine") behind f engine_reads) parts.1) (λ no_engine.
     choose (codes "ide") name
-    (λ e. subst (λ n. fits n behind → Reading (n ∷ behind)) e (λ f. ide_read behind f few) parts.1) (λ no_ide_name.
+    (λ e. subst (λ n. fits n behind → Reading (n ∷ behind)) e (λ f. ide_reads behind f) parts.1) (λ no_ide_name.
     choose (codes "replay") name
     (λ e. subst (λ n. fits n behind → Reading (n ∷ behind)) e
-    (λ f. bounded_read (codes "replay") refl replay_known behind f few) parts.1) (λ no_replay.
+    (λ f. split_reads (codes "replay") behind f replay_reads) parts.1) (λ no_replay.
     choose (codes "show") name
-    (λ e. subst (λ n. fits n behind → Reading (n ∷ behind)) e (λ f. show_read behind f) parts.1) (λ no_show_name.
-    let none : find (answers_to name) names ≡ None = λ i. found_by (no_run i) (no_talk i) (no_engine i) (no_ide_name i)
+    (λ e. subst (λ n. fits n behind → Reading (n ∷ behind)) e (λ f. show_reads behind f) parts.1) (λ no_show_name.
+    let none : find (answers_to name) names ≡ None = λ i. found_by (no_run i) (no_talk i) (no_engine i)
+    (no_ide_name i)
     (no_replay i) (no_show_name i) in
     inr (
       subst HasFault (sym (unknown name behind parts.0 none)) tt,
@@ -328,7 +523,7 @@ reads (name ∷ behind) h small =
           (same_name name behind task asks) none),
     )))))))
 
--- ---- what is asked for passes the first test
+-- ---- words that ask for something are plain
 
 number_plain : (most n : ℕ) (word : Text) → decimal_in most word ≡ Some n → is_plain word ≡ true
 unfolding decimal_in
@@ -444,129 +639,3 @@ asks_plain words (ide port script) h =
     (more_plain script [] (plain_if script h.is_script.is_name.some h.is_script.is_none) refl)
 asks_plain words (replay events ask) h = ap are_plain h.words_are ∙ asks_behind (replay events ask) words h refl
 asks_plain words show h = ap are_plain h
-
--- ---- what is read asks for something
-
-name_read : (words : List Text) (task : Task) (p : Parsed) → IsParsed words p → IsInvocation words task
-    → p.name ≡ name_of task
-name_read words task p is asks = ap (λ (l : List Text). get_or l 0 []) (sym is.words_are ∙ (named words task asks).1)
-
-behind_read : (words : List Text) (task : Task) (p : Parsed) (is : IsParsed words p) (asks : IsInvocation words task)
-    → is.behind ≡ (named words task asks).0
-behind_read words task p is asks = ap (λ (l : List Text). drop 1 l) (sym is.words_are ∙ (named words task asks).1)
-
-not_named : (name : Text) (task : Task) → name ≡ name_of task → bytes_eq (name_of task) name ≡ false → ⊥
-not_named name task e n =
-    let yes_it : bytes_eq (name_of task) name ≡ true = (bytes_eq-Decides (name_of task) name).1 (sym e) in
-    let t : true ≡ false = sym yes_it ∙ n in absurd cc
-
-pub no_engine_read : (words : List Text) (task : Task) (p : Parsed) → IsParsed words p → p.name ≡ codes "engine"
-    → ((behind : List Text) (address : Address) (key : List ℕ) (ask : Invocation)
-    → invocation_of behind ≡ invocation_in p
-    → EngineWords behind address key ask → ⊥) → IsInvocation words task → ⊥
-no_engine_read words (engine address key ask) p is name none asks =
-    none asks.behind address key ask (ap invocation_of (sym (behind_read words (engine address key ask) p is asks))
-    ∙ is.invocation)
-    asks.dials
-no_engine_read words (run ask) p is name none asks =
-    not_named (codes "engine") (run ask) (sym name ∙ name_read words (run ask) p is asks) refl
-no_engine_read words (talk key ask) p is name none asks =
-    not_named (codes "engine") (talk key ask) (sym name ∙ name_read words (talk key ask) p is asks) refl
-no_engine_read words (ide port script) p is name none asks =
-    not_named (codes "engine") (ide port script) (sym name ∙ name_read words (ide port script) p is asks) refl
-no_engine_read words (replay events ask) p is name none asks =
-    not_named (codes "engine") (replay events ask) (sym name ∙ name_read words (replay events ask) p is asks) refl
-no_engine_read words show p is name none asks =
-    not_named (codes "engine") show (sym name ∙ name_read words show p is asks) refl
-
-pub no_ide_read : (words : List Text) (task : Task) (p : Parsed) → IsParsed words p → p.name ≡ codes "ide"
-    → ((port : ℕ) (script : List ℕ) → IsIde words port script → ⊥) → IsInvocation words task → ⊥
-no_ide_read words (ide port script) p is name none asks = none port script asks
-no_ide_read words (run ask) p is name none asks =
-    not_named (codes "ide") (run ask) (sym name ∙ name_read words (run ask) p is asks) refl
-no_ide_read words (talk key ask) p is name none asks =
-    not_named (codes "ide") (talk key ask) (sym name ∙ name_read words (talk key ask) p is asks) refl
-no_ide_read words (engine address key ask) p is name none asks =
-    not_named (codes "ide") (engine address key ask) (sym name ∙ name_read words (engine address key ask) p is asks)
-    refl
-no_ide_read words (replay events ask) p is name none asks =
-    not_named (codes "ide") (replay events ask) (sym name ∙ name_read words (replay events ask) p is asks) refl
-no_ide_read words show p is name none asks =
-    not_named (codes "ide") show (sym name ∙ name_read words show p is asks) refl
-
-pub no_replay_read : (words : List Text) (task : Task) (p : Parsed) → IsParsed words p → p.name ≡ codes "replay"
-    → ((behind : List Text) (events : List ℕ) (ask : Invocation) → invocation_of behind ≡ invocation_in p
-    → ReplayWords behind events ask → ⊥)
-    → IsInvocation words task → ⊥
-no_replay_read words (replay events ask) p is name none asks =
-    none asks.behind events ask (ap invocation_of (sym (behind_read words (replay events ask) p is asks))
-    ∙ is.invocation)
-    asks.replays
-no_replay_read words (run ask) p is name none asks =
-    not_named (codes "replay") (run ask) (sym name ∙ name_read words (run ask) p is asks) refl
-no_replay_read words (talk key ask) p is name none asks =
-    not_named (codes "replay") (talk key ask) (sym name ∙ name_read words (talk key ask) p is asks) refl
-no_replay_read words (engine address key ask) p is name none asks =
-    not_named (codes "replay") (engine address key ask) (sym name ∙ name_read words (engine address key ask) p is asks)
-    refl
-no_replay_read words (ide port script) p is name none asks =
-    not_named (codes "replay") (ide port script) (sym name ∙ name_read words (ide port script) p is asks) refl
-no_replay_read words show p is name none asks =
-    not_named (codes "replay") show (sym name ∙ name_read words show p is asks) refl
-
-pub no_show_read : (words : List Text) (task : Task) (p : Parsed) → IsParsed words p → p.name ≡ codes "show"
-    → (IsInvocation words show → ⊥) → IsInvocation words task → ⊥
-no_show_read words show p is name none asks = none asks
-no_show_read words (ide port script) p is name none asks =
-    not_named (codes "show") (ide port script) (sym name ∙ name_read words (ide port script) p is asks) refl
-no_show_read words (replay events ask) p is name none asks =
-    not_named (codes "show") (replay events ask) (sym name ∙ name_read words (replay events ask) p is asks) refl
-no_show_read words (run ask) p is name none asks =
-    not_named (codes "show") (run ask) (sym name ∙ name_read words (run ask) p is asks) refl
-no_show_read words (talk key ask) p is name none asks =
-    not_named (codes "show") (talk key ask) (sym name ∙ name_read words (talk key ask) p is asks) refl
-no_show_read words (engine address key ask) p is name none asks =
-    not_named (codes "show") (engine address key ask) (sym name ∙ name_read words (engine address key ask) p is asks)
-    refl
-
-pub no_name_read : (words : List Text) (task : Task) (p : Parsed) → IsParsed words p → (p.name ≡ codes "run" → ⊥)
-    → (p.name ≡ codes "talk" → ⊥) → (p.name ≡ codes "engine" → ⊥)
-    → (p.name ≡ codes "ide" → ⊥) → (p.name ≡ codes "replay" → ⊥) → (p.name ≡ codes "show" → ⊥) → IsInvocation words task
-    → ⊥
-no_name_read words (run ask) p is a b c i r d asks = a (name_read words (run ask) p is asks)
-no_name_read words (talk key ask) p is a b c i r d asks = b (name_read words (talk key ask) p is asks)
-no_name_read words (engine address key ask) p is a b c i r d asks =
-    c (name_read words (engine address key ask) p is asks)
-no_name_read words (ide port script) p is a b c i r d asks = i (name_read words (ide port script) p is asks)
-no_name_read words (replay events ask) p is a b c i r d asks = r (name_read words (replay events ask) p is asks)
-no_name_read words show p is a b c i r d asks = d (name_read words show p is asks)
-
--- behind `ide` stand the words that were read, and no bound
-pub ide_parsed : (words : List Text) (p : Parsed) (number script : Text) → IsParsed words p → p.name ≡ codes "ide"
-    → p.bound ≡ None → p.words ≡ number ∷ script ∷ []
-    → words ≡ codes "ide" ∷ number ∷ script ∷ []
-ide_parsed words p number script is name none two =
-    is.words_are ∙ ap₂ (λ (n : Text) (l : List Text). n ∷ l) name (is.unbound none ∙ two)
-
-pub ide_unbound : (words : List Text) (p : Parsed) (number script : Text) → IsParsed words p
-    → words ≡ codes "ide" ∷ number ∷ script ∷ [] → (port : ℕ) → port_of number ≡ Some port
-    → (p.bound ≡ None) × (p.words ≡ number ∷ script ∷ [])
-ide_unbound words p number script is asks port is_port = by p.bound refl where
-  behind : is.behind ≡ number ∷ script ∷ []
-  behind = ap (λ (l : List Text). drop 1 l) (sym is.words_are ∙ asks)
-
-  by : (b : Option Text) → p.bound ≡ b → (p.bound ≡ None) × (p.words ≡ number ∷ script ∷ [])
-  by None e = (e, sym (is.unbound e) ∙ behind)
-  by (Some n) e =
-      let first : number ≡ codes "--bound" = ap (λ (l : List Text). get_or l 0 []) (sym behind ∙ is.bounded n e) in
-      let plain : false ≡ true = sym (ap is_plain first) ∙ port_plain number port is_port in absurd cc
-
-pub show_alone : (words : List Text) (p : Parsed) → IsParsed words p → words ≡ codes "show" ∷ []
-    → (p.bound ≡ None) × (p.words ≡ [])
-show_alone words p is asks = by p.bound refl where
-  none_behind : is.behind ≡ []
-  none_behind = ap (λ (l : List Text). drop 1 l) (sym is.words_are ∙ asks)
-
-  by : (b : Option Text) → p.bound ≡ b → (p.bound ≡ None) × (p.words ≡ [])
-  by None e = (e, sym (is.unbound e) ∙ none_behind)
-  by (Some n) e = absurd (omega (arith, ap (λ (l : List Text). length l) (sym (is.bounded n e) ∙ none_behind)))

@@ -1,19 +1,19 @@
 //! The words of a command line.
-ghost use Rattle.std.specs.Prelude.{◌≡◌, ◌↔◌, ◌∷◌, [], ℕ, false, List, Option, Some, None, IsTrue, IfOk, IfSome};
-ghost use Rattle.std.specs.Prelude.{IfNone};
-ghost use Rattle.std.specs.Prelude.{Ok, codes, map, string_bytes};
+ghost use Rattle.std.specs.Prelude.{◌≡◌, ◌≤◌, ℕ, List, Some, None, IfOk, IfSome, IfNone, length};
+ghost use Rattle.std.specs.Prelude.{Ok, codes, false, map, option_and_then, string_bytes};
 ghost use Rattle.std.specs.Option.{option_map};
-ghost use Rattle.dp_words.specs.CommandLine.{Address as AnyAddress, AreFileWords, EngineWords, Invocation, IsFileWord};
-ghost use Rattle.dp_words.specs.CommandLine.{IsHostWord, IsIde, IsInvocation, IsSession, ReplayWords, RunWords};
-ghost use Rattle.dp_words.specs.CommandLine.{TalkWords, Task, bound_of, invocation_of, port_of};
-ghost use Rattle.dp_words.specs.Commands.{address_seen, invocation_seen, task_of};
+ghost use Rattle.clap.specs.Words.{first_of, found_of, rows_of};
+ghost use Rattle.dp_words.specs.CommandLine.{AreFileWords, Invocation, IsFileWord, IsHostWord, IsInvocation, IsSession};
+ghost use Rattle.dp_words.specs.CommandLine.{Task, bound_of as bound_word, port_of};
+ghost use Rattle.dp_words.specs.Commands.{invocation_seen, task_of};
 ghost use Rattle.dp_words.specs.Plain.{are_plain};
-ghost use Rattle.dp_words.specs.inner.Commands.{parsed_seen};
-ghost use Rattle.dp_words.specs.inner.Parsed.{IsParsed, invocation_in, bound_in};
+ghost use Rattle.dp_words.specs.inner.Given.{bound_given};
+ghost use Rattle.dp_words.specs.inner.Rows.{AreRows, IsGiven, count_in, program_in};
 
 use crate::names::{are_files, is_file, is_option};
-use crate::parser::{Parsed, parse};
+use crate::parser::{files_of, parse, word_of};
 use crate::plain::are_plain;
+use clap::ArgMatches;
 use dp_outside::{Host, KEY_LIMIT, is_name};
 use dp_value::{Memory, decimal};
 use std::alloc::Global;
@@ -85,17 +85,13 @@ pub(crate) const BOUND_LIMIT: u64 = 100_000_000;
 
 /// The bound that a word is: a decimal from 1 to the most.
 fn read_bound(word: &str) -> Option<u64>
-    ensures { result ≡ bound_of word.now }
+    ensures { result ≡ bound_word word.now }
 {
-    match decimal(word.as_bytes(), BOUND_LIMIT) {
-        None => None,
-        Some(bound) => {
-            if bound == 0 {
-                return None;
-            }
-            Some(bound)
-        }
+    let bound = decimal(word.as_bytes(), BOUND_LIMIT)?;
+    if bound == 0 {
+        return None;
     }
+    Some(bound)
 }
 
 /// The program of these files, where they are names of files.
@@ -111,8 +107,8 @@ fn program_of(program: Program<'_>) -> Option<Program<'_>>
 }
 
 /// The bound that a word gives, or that which stands where none is given.
-fn bound_given(word: Option<&str>) -> Option<u64>
-    ensures { result ≡ bound_in (option_map (λ w. w.now) word.entry) }
+fn bound_of(word: Option<&str>) -> Option<u64>
+    ensures { result ≡ bound_given (option_map (λ w. w.now) word.entry) }
 {
     match word {
         None => Some(DEFAULT_BOUND),
@@ -120,29 +116,26 @@ fn bound_given(word: Option<&str>) -> Option<u64>
     }
 }
 
-/// The program of the words, as names, with their bound.
-fn program_in<'a>(parsed: Parsed<'a>) -> Option<Program<'a>>
-    ensures { option_map invocation_seen result ≡ invocation_in (parsed_seen parsed.entry) }
+/// The program that is given, by its bound and the names of its files.
+fn program_in<'a>(words: &'a [String], given: &ArgMatches<'a>) -> Option<Program<'a>>
+    requires few { count_in (rows_of (found_of given.now)) ≤ length words.now }
+    ensures { option_map invocation_seen result ≡ program_in (rows_of (found_of given.now)) words.entry.now }
 {
-    let bound = bound_given(parsed.bound)?;
-    Some(Program {
-        bound,
-        files: parsed.words,
-    })
+    let bound = bound_of(word_of(given, "bound"))?;
+    let files = files_of(words, given);
+    Some(Program { bound, files })
 }
 
-/// What the words behind `run` ask for.
-fn read_run<'a>(parsed: Parsed<'a>) -> Option<Program<'a>>
-    ensures found { IfSome result (λ p. (behind : List (List ℕ))
-        → invocation_of behind ≡ invocation_in (parsed_seen parsed.entry)
-        → RunWords behind (invocation_seen p)) }
-    ensures none { IfNone result ((behind : List (List ℕ)) (ask : Invocation)
-        → invocation_of behind ≡ invocation_in (parsed_seen parsed.entry) → RunWords behind ask → ⊥) }
+/// `run [--bound N] FILE..`
+fn read_run<'a>(words: &'a [String], given: &ArgMatches<'a>) -> Option<Program<'a>>
+    requires few { count_in (rows_of (found_of given.now)) ≤ length words.now }
+    ensures found { IfSome result (λ p.
+        (program_in (rows_of (found_of given.now)) words.entry.now ≡ Some (invocation_seen p))
+        × AreFileWords (invocation_seen p).names) }
+    ensures none { IfNone result ((ask : Invocation)
+        → program_in (rows_of (found_of given.now)) words.entry.now ≡ Some ask → AreFileWords ask.names → ⊥) }
 {
-    match program_in(parsed) {
-        None => None,
-        Some(program) => program_of(program),
-    }
+    program_of(program_in(words, given)?)
 }
 
 /// The session of this key over the program of these files.
@@ -158,28 +151,22 @@ fn talk_of<'a>(key: &'a str, program: Program<'a>) -> Option<Talk<'a>>
     if is_option(key.as_bytes()) {
         return None;
     }
-    match program_of(program) {
-        None => None,
-        Some(program) => Some(Talk { key, program }),
-    }
+    let program = program_of(program)?;
+    Some(Talk { key, program })
 }
 
-/// What the words behind `talk` ask for.
-fn read_talk<'a>(parsed: Parsed<'a>) -> Option<Talk<'a>>
-    ensures found { IfSome result (λ t. (behind : List (List ℕ))
-        → invocation_of behind ≡ invocation_in (parsed_seen parsed.entry)
-        → TalkWords behind t.key.now (invocation_seen t.program)) }
-    ensures none { IfNone result ((behind key : _) (ask : Invocation)
-        → invocation_of behind ≡ invocation_in (parsed_seen parsed.entry)
-        → TalkWords behind key ask → ⊥) }
+/// `talk [--bound N] KEY FILE..`
+fn read_talk<'a>(words: &'a [String], given: &ArgMatches<'a>) -> Option<Talk<'a>>
+    requires few { count_in (rows_of (found_of given.now)) ≤ length words.now }
+    ensures found { IfSome result (λ t. (first_of (codes "KEY") (rows_of (found_of given.now)) ≡ Some t.key.now)
+        × (program_in (rows_of (found_of given.now)) words.entry.now ≡ Some (invocation_seen t.program))
+        × IsSession t.key.now (invocation_seen t.program)) }
+    ensures none { IfNone result ((key : List ℕ) (ask : Invocation)
+        → first_of (codes "KEY") (rows_of (found_of given.now)) ≡ Some key
+        → program_in (rows_of (found_of given.now)) words.entry.now ≡ Some ask → IsSession key ask → ⊥) }
 {
-    match program_in(parsed) {
-        None => None,
-        Some(Program { bound, files }) => match files.split_first() {
-            None => None,
-            Some((key, files)) => talk_of(key.as_str(), Program { bound, files }),
-        },
-    }
+    let program = program_in(words, given)?;
+    talk_of(word_of(given, "KEY")?, program)
 }
 
 /// The most that a port may be.
@@ -189,15 +176,11 @@ const PORT_LIMIT: u64 = 65_535;
 fn read_port(word: &str) -> Option<u16>
     ensures { result ≡ port_of word.now }
 {
-    match decimal(word.as_bytes(), PORT_LIMIT) {
-        None => None,
-        Some(port) => {
-            if port == 0 {
-                return None;
-            }
-            Some(port as u16)
-        }
+    let port = decimal(word.as_bytes(), PORT_LIMIT)?;
+    if port == 0 {
+        return None;
     }
+    Some(port as u16)
 }
 
 /// The address that two words are.
@@ -212,10 +195,8 @@ fn address_of<'a>(host: &'a str, port: &str) -> Option<Address<'a>>
     if Host::of(host.as_bytes()).is_none() {
         return None;
     }
-    match read_port(port) {
-        None => None,
-        Some(port) => Some(Address { host, port }),
-    }
+    let port = read_port(port)?;
+    Some(Address { host, port })
 }
 
 /// The session of a key over a program, and where its IDE waits.
@@ -232,35 +213,32 @@ fn engine_of<'a>(
     ensures none { IfNone result (IsHostWord host.now → (n : ℕ) → port_of port.now ≡ Some n
         → IsSession key.now (invocation_seen program.entry) → ⊥) }
 {
-    match address_of(host, port) {
-        None => None,
-        Some(address) => match talk_of(key, program) {
-            None => None,
-            Some(talk) => Some(Engine { address, talk }),
-        },
-    }
+    let address = address_of(host, port)?;
+    let talk = talk_of(key, program)?;
+    Some(Engine { address, talk })
 }
 
-/// What the words behind `engine` ask for.
-fn read_engine<'a>(parsed: Parsed<'a>) -> Option<Engine<'a>>
-    ensures found { IfSome result (λ e. (behind : List (List ℕ))
-        → invocation_of behind ≡ invocation_in (parsed_seen parsed.entry)
-        → EngineWords behind (address_seen e.address) e.talk.key.now (invocation_seen e.talk.program)) }
-    ensures none { IfNone result ((behind : List (List ℕ)) (address : AnyAddress) (key : List ℕ) (ask : Invocation)
-        → invocation_of behind ≡ invocation_in (parsed_seen parsed.entry) → EngineWords behind address key ask → ⊥) }
+/// `engine [--bound N] HOST PORT KEY FILE..`
+fn read_engine<'a>(words: &'a [String], given: &ArgMatches<'a>) -> Option<Engine<'a>>
+    requires few { count_in (rows_of (found_of given.now)) ≤ length words.now }
+    ensures found { IfSome result (λ e.
+        (first_of (codes "HOST") (rows_of (found_of given.now)) ≡ Some e.address.host.now)
+        × IsHostWord e.address.host.now
+        × (option_and_then port_of (first_of (codes "PORT") (rows_of (found_of given.now))) ≡ Some e.address.port)
+        × (first_of (codes "KEY") (rows_of (found_of given.now)) ≡ Some e.talk.key.now)
+        × (program_in (rows_of (found_of given.now)) words.entry.now ≡ Some (invocation_seen e.talk.program))
+        × IsSession e.talk.key.now (invocation_seen e.talk.program)) }
+    ensures none { IfNone result ((host number key : List ℕ) (port : ℕ) (ask : Invocation)
+        → first_of (codes "HOST") (rows_of (found_of given.now)) ≡ Some host
+        → first_of (codes "PORT") (rows_of (found_of given.now)) ≡ Some number
+        → first_of (codes "KEY") (rows_of (found_of given.now)) ≡ Some key
+        → program_in (rows_of (found_of given.now)) words.entry.now ≡ Some ask
+        → IsHostWord host → port_of number ≡ Some port → IsSession key ask → ⊥) }
 {
-    match program_in(parsed) {
-        None => None,
-        Some(Program { bound, files }) => match files {
-            [host, port, key, files @ ..] => engine_of(
-                host.as_str(),
-                port.as_str(),
-                key.as_str(),
-                Program { bound, files },
-            ),
-            _ => None,
-        },
-    }
+    let program = program_in(words, given)?;
+    let host = word_of(given, "HOST")?;
+    let port = word_of(given, "PORT")?;
+    engine_of(host, port, word_of(given, "KEY")?, program)
 }
 
 /// The script that is played over a link to a port.
@@ -272,38 +250,23 @@ fn ide_of<'a>(number: &str, script: &'a str) -> Option<Ide<'a>>
     if !is_file(script) {
         return None;
     }
-    match read_port(number) {
-        None => None,
-        Some(port) => Some(Ide { port, script }),
-    }
+    let port = read_port(number)?;
+    Some(Ide { port, script })
 }
 
-/// The script of two words.
-fn script_of<'a>(words: &'a [String]) -> Option<Ide<'a>>
-    ensures found { IfSome result (λ i. (number : List ℕ) × (map string_bytes words.now ≡ number ∷ i.script.now ∷ [])
-        × (port_of number ≡ Some i.port) × IsFileWord i.script.now) }
-    ensures none { IfNone result ((number script : List ℕ) (n : ℕ) → map string_bytes words.now ≡ number ∷ script ∷ []
-        → port_of number ≡ Some n → IsFileWord script → ⊥) }
+/// `ide PORT SCRIPT`
+fn read_ide<'a>(given: &ArgMatches<'a>) -> Option<Ide<'a>>
+    ensures found { IfSome result (λ i.
+        (option_and_then port_of (first_of (codes "PORT") (rows_of (found_of given.now))) ≡ Some i.port)
+        × (first_of (codes "SCRIPT") (rows_of (found_of given.now)) ≡ Some i.script.now)
+        × IsFileWord i.script.now) }
+    ensures none { IfNone result ((number script : List ℕ) (port : ℕ)
+        → first_of (codes "PORT") (rows_of (found_of given.now)) ≡ Some number
+        → first_of (codes "SCRIPT") (rows_of (found_of given.now)) ≡ Some script
+        → port_of number ≡ Some port → IsFileWord script → ⊥) }
 {
-    match words {
-        [number, script] => ide_of(number.as_str(), script.as_str()),
-        _ => None,
-    }
-}
-
-/// What `ide` asks for, where no bound is given.
-fn read_ide<'a>(parsed: Parsed<'a>) -> Option<Ide<'a>>
-    ensures found { IfSome result (λ i. (words : List (List ℕ)) → IsParsed words (parsed_seen parsed.entry)
-        → parsed.entry.name.now ≡ codes "ide"
-        → IsIde words i.port i.script.now) }
-    ensures none { IfNone result ((words : List (List ℕ)) (port : ℕ) (script : List ℕ)
-        → IsParsed words (parsed_seen parsed.entry)
-        → IsIde words port script → ⊥) }
-{
-    if parsed.bound.is_some() {
-        return None;
-    }
-    script_of(parsed.words)
+    let port = word_of(given, "PORT")?;
+    ide_of(port, word_of(given, "SCRIPT")?)
 }
 
 /// The events of a list over the program of these files.
@@ -316,92 +279,60 @@ fn replay_of<'a>(events: &'a str, program: Program<'a>) -> Option<Replay<'a>>
     if !is_file(events) {
         return None;
     }
-    match program_of(program) {
+    let program = program_of(program)?;
+    Some(Replay { events, program })
+}
+
+/// `replay [--bound N] EVENTS FILE..`
+fn read_replay<'a>(words: &'a [String], given: &ArgMatches<'a>) -> Option<Replay<'a>>
+    requires few { count_in (rows_of (found_of given.now)) ≤ length words.now }
+    ensures found { IfSome result (λ r. (first_of (codes "EVENTS") (rows_of (found_of given.now)) ≡ Some r.events.now)
+        × (program_in (rows_of (found_of given.now)) words.entry.now ≡ Some (invocation_seen r.program))
+        × IsFileWord r.events.now × AreFileWords (invocation_seen r.program).names) }
+    ensures none { IfNone result ((events : List ℕ) (ask : Invocation)
+        → first_of (codes "EVENTS") (rows_of (found_of given.now)) ≡ Some events
+        → program_in (rows_of (found_of given.now)) words.entry.now ≡ Some ask
+        → IsFileWord events → AreFileWords ask.names → ⊥) }
+{
+    let program = program_in(words, given)?;
+    replay_of(word_of(given, "EVENTS")?, program)
+}
+
+/// What a command of this name asks for with what it is given.
+#[tactic(auto, using(crate::proofs::GivenLaws::few_files))]
+fn command_named<'a>(words: &'a [String], name: &str, given: &ArgMatches<'a>) -> Option<Command<'a>>
+    requires given { IsGiven (map string_bytes words.now) name.now (rows_of (found_of given.now)) }
+    ensures found { IfSome result (λ command. IsInvocation (map string_bytes words.entry.now) (task_of command)) }
+    ensures none { IfNone result ((task : Task) → IsInvocation (map string_bytes words.entry.now) task → ⊥) }
+{
+    if name == "run" {
+        return Some(Command::Run(read_run(words, given)?));
+    }
+    if name == "talk" {
+        return Some(Command::Talk(read_talk(words, given)?));
+    }
+    if name == "engine" {
+        return Some(Command::Engine(read_engine(words, given)?));
+    }
+    if name == "ide" {
+        return Some(Command::Ide(read_ide(given)?));
+    }
+    if name == "replay" {
+        return Some(Command::Replay(read_replay(words, given)?));
+    }
+    Some(Command::Show)
+}
+
+/// What the matches of the words ask for.
+fn command_in<'a>(words: &'a [String], matches: &ArgMatches<'a>) -> Option<Command<'a>>
+    requires rows { AreRows (map string_bytes words.now) matches.now }
+    ensures found { IfSome result (λ command. IsInvocation (map string_bytes words.entry.now) (task_of command)) }
+    ensures none { IfNone result ((task : Task) → IsInvocation (map string_bytes words.entry.now) task → ⊥) }
+{
+    match matches.subcommand() {
         None => None,
-        Some(program) => Some(Replay { events, program }),
+        Some((name, given)) => command_named(words, name, given),
     }
-}
-
-/// What the words behind `replay` ask for.
-fn read_replay<'a>(parsed: Parsed<'a>) -> Option<Replay<'a>>
-    ensures found { IfSome result (λ r. (behind : List (List ℕ))
-        → invocation_of behind ≡ invocation_in (parsed_seen parsed.entry)
-        → ReplayWords behind r.events.now (invocation_seen r.program)) }
-    ensures none { IfNone result ((behind : List (List ℕ)) (events : List ℕ) (ask : Invocation)
-        → invocation_of behind ≡ invocation_in (parsed_seen parsed.entry) → ReplayWords behind events ask → ⊥) }
-{
-    match program_in(parsed) {
-        None => None,
-        Some(Program { bound, files }) => match files.split_first() {
-            None => None,
-            Some((events, files)) => replay_of(events.as_str(), Program { bound, files }),
-        },
-    }
-}
-
-/// Whether nothing stands behind the command.
-fn is_alone(parsed: Parsed<'_>) -> bool
-    ensures { IsTrue result ↔ (((parsed_seen parsed.entry).bound ≡ None) × ((parsed_seen parsed.entry).words ≡ [])) }
-{
-    parsed.bound.is_none() && parsed.words.is_empty()
-}
-
-/// What `show` asks for, behind which nothing stands.
-fn read_show<'a>(parsed: Parsed<'a>) -> Option<Command<'a>>
-    ensures found { IfSome result (λ command. (words : List (List ℕ)) → IsParsed words (parsed_seen parsed.entry)
-        → parsed.entry.name.now ≡ codes "show"
-        → IsInvocation words (task_of command)) }
-    ensures none { IfNone result ((words : List (List ℕ)) → IsParsed words (parsed_seen parsed.entry)
-        → IsInvocation words Task.show → ⊥) }
-{
-    if is_alone(parsed) {
-        Some(Command::Show)
-    } else {
-        None
-    }
-}
-
-/// What is asked for that is read so.
-fn command_of<'a>(parsed: Parsed<'a>) -> Option<Command<'a>>
-    ensures found { IfSome result (λ command. (words : List (List ℕ)) → IsParsed words (parsed_seen parsed.entry)
-        → IsInvocation words (task_of command)) }
-    ensures none { IfNone result ((words : List (List ℕ)) (task : Task) → IsParsed words (parsed_seen parsed.entry)
-        → IsInvocation words task → ⊥) }
-{
-    if parsed.name == "run" {
-        return match read_run(parsed) {
-            Some(program) => Some(Command::Run(program)),
-            None => None,
-        };
-    }
-    if parsed.name == "talk" {
-        return match read_talk(parsed) {
-            Some(talk) => Some(Command::Talk(talk)),
-            None => None,
-        };
-    }
-    if parsed.name == "engine" {
-        return match read_engine(parsed) {
-            Some(engine) => Some(Command::Engine(engine)),
-            None => None,
-        };
-    }
-    if parsed.name == "ide" {
-        return match read_ide(parsed) {
-            Some(ide) => Some(Command::Ide(ide)),
-            None => None,
-        };
-    }
-    if parsed.name == "replay" {
-        return match read_replay(parsed) {
-            Some(replay) => Some(Command::Replay(replay)),
-            None => None,
-        };
-    }
-    if parsed.name == "show" {
-        return read_show(parsed);
-    }
-    None
 }
 
 /// What the words ask for, and `None` exactly where they ask for nothing, unless memory ran out. The words are
@@ -419,6 +350,6 @@ pub fn read_words<'a>(alloc: Global, words: &'a [String]) -> Result<Option<Comma
     }
     match parse(alloc, words)? {
         None => Ok(None),
-        Some(parsed) => Ok(command_of(parsed)),
+        Some(matches) => Ok(command_in(words, &matches)),
     }
 }

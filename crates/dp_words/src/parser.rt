@@ -1,42 +1,41 @@
-//! The command that reads the words, and what it reads.
+//! The commands that `clap` is told, each with the names of the words behind it, and what is read of their matches.
 
-ghost use Rattle.std.specs.Prelude.{◌≡◌, ◌≢◌, ◌≤◌, ◌-◌, drop, length, true, false, is_some, IfOk, IfSome};
-ghost use Rattle.std.specs.Prelude.{MatchResult, Ok, None, codes, map, option_map, string_bytes};
+ghost use Rattle.std.specs.Prelude.{◌≡◌, ◌≢◌, ◌≤◌, ◌-◌, drop, length, true, false, IfOk, IfSome};
+ghost use Rattle.std.specs.Prelude.{MatchResult, Ok, None, map, option_map, string_bytes};
 ghost use Rattle.clap.specs.Words.{app_of, first_of, found_of, kind_of, rows_of, rule_of, shape_of};
 ghost use Rattle.clap.specs.declared.error.kind.ErrorKind.TheVariants.{OutOfMemory};
 ghost use Rattle.dp_words.specs.CommandLine.{IsInvocation, Task};
-ghost use Rattle.dp_words.specs.inner.Parsed.{IsParsed};
-ghost use Rattle.dp_words.specs.inner.Commands.{parsed_seen};
 ghost use Rattle.dp_words.specs.Plain as plain;
 ghost use Rattle.dp_words.specs.inner.Rows.{AreRows, count_in};
 ghost use Rattle.dp_words.specs.inner.Shapes as shape;
 
 use clap::error::ErrorKind;
 use clap::{Arg, ArgAction, ArgMatches, Command, Error};
+use dp_tree::FILE_COUNT_LIMIT;
 use dp_value::Memory;
 use std::alloc::{AllocError, Global};
 
-/// What is read of the words: the command, its bound, and the words behind.
-#[derive(Clone, Copy, Debug)]
-pub(crate) struct Parsed<'a> {
-    pub(crate) name: &'a str,
-    pub(crate) bound: Option<&'a str>,
-    pub(crate) words: &'a [String],
-}
-
-/// One word or more.
-fn words_argument<'a>(alloc: Global) -> Arg<'a>
-    ensures rule { rule_of result ≡ shape.words_rule }
+/// One word, by its name.
+fn word<'a>(alloc: Global, name: &'a str) -> Arg<'a>
+    ensures rule { rule_of result ≡ shape.word_rule name.entry.now }
     ensures local { result.global ≡ false }
 {
-    Arg::new(alloc, "words")
+    Arg::new(alloc, name).action(ArgAction::Set).required(true)
+}
+
+/// `FILE..`: as many words as a program may have files.
+fn files<'a>(alloc: Global) -> Arg<'a>
+    ensures rule { rule_of result ≡ shape.files_rule }
+    ensures local { result.global ≡ false }
+{
+    Arg::new(alloc, "FILE")
         .action(ArgAction::Append)
-        .num_args(1..)
+        .num_args(1..=FILE_COUNT_LIMIT)
         .required(true)
 }
 
-/// A bound before the words.
-fn bound_argument<'a>(alloc: Global) -> Arg<'a>
+/// `--bound N`.
+fn bound<'a>(alloc: Global) -> Arg<'a>
     ensures rule { rule_of result ≡ shape.bound_rule }
     ensures local { result.global ≡ false }
 {
@@ -45,20 +44,56 @@ fn bound_argument<'a>(alloc: Global) -> Arg<'a>
         .action(ArgAction::Set)
 }
 
-/// A command with words behind it.
-fn unbounded<'a>(alloc: Global, name: &'a str) -> Result<Command<'a>, AllocError>
-    ensures { IfOk result (λ c. shape_of c ≡ shape.unbounded name.entry.now) }
-{
-    Command::new(alloc, name).arg(words_argument(alloc))
-}
-
-/// A command with a bound, if it is given, and words behind it.
+/// A command with a bound, if it is given.
 fn bounded<'a>(alloc: Global, name: &'a str) -> Result<Command<'a>, AllocError>
     ensures { IfOk result (λ c. shape_of c ≡ shape.bounded name.entry.now) }
 {
-    Command::new(alloc, name)
-        .arg(bound_argument(alloc))?
-        .arg(words_argument(alloc))
+    Command::new(alloc, name).arg(bound(alloc))
+}
+
+/// `run [--bound N] FILE..`
+fn run<'a>(alloc: Global) -> Result<Command<'a>, AllocError>
+    ensures { IfOk result (λ c. shape_of c ≡ shape.run) }
+{
+    bounded(alloc, "run")?.arg(files(alloc))
+}
+
+/// `talk [--bound N] KEY FILE..`
+fn talk<'a>(alloc: Global) -> Result<Command<'a>, AllocError>
+    ensures { IfOk result (λ c. shape_of c ≡ shape.talk) }
+{
+    bounded(alloc, "talk")?
+        .arg(word(alloc, "KEY"))?
+        .arg(files(alloc))
+}
+
+/// `engine [--bound N] HOST PORT KEY FILE..`
+fn engine<'a>(alloc: Global) -> Result<Command<'a>, AllocError>
+    ensures { IfOk result (λ c. shape_of c ≡ shape.engine) }
+{
+    bounded(alloc, "engine")?
+        .arg(word(alloc, "HOST"))?
+        .arg(word(alloc, "PORT"))?
+        .arg(word(alloc, "KEY"))?
+        .arg(files(alloc))
+}
+
+/// `ide PORT SCRIPT`
+fn ide<'a>(alloc: Global) -> Result<Command<'a>, AllocError>
+    ensures { IfOk result (λ c. shape_of c ≡ shape.ide) }
+{
+    Command::new(alloc, "ide")
+        .arg(word(alloc, "PORT"))?
+        .arg(word(alloc, "SCRIPT"))
+}
+
+/// `replay [--bound N] EVENTS FILE..`
+fn replay<'a>(alloc: Global) -> Result<Command<'a>, AllocError>
+    ensures { IfOk result (λ c. shape_of c ≡ shape.replay) }
+{
+    bounded(alloc, "replay")?
+        .arg(word(alloc, "EVENTS"))?
+        .arg(files(alloc))
 }
 
 /// The program's own name, and how its words are read.
@@ -78,71 +113,56 @@ fn program<'a>(alloc: Global) -> Result<Command<'a>, AllocError>
     ensures { IfOk result (λ c. app_of c ≡ shape.program) }
 {
     settings(alloc)
-        .subcommand(bounded(alloc, "run")?)?
-        .subcommand(bounded(alloc, "talk")?)?
-        .subcommand(bounded(alloc, "engine")?)?
-        .subcommand(unbounded(alloc, "ide")?)?
-        .subcommand(bounded(alloc, "replay")?)?
+        .subcommand(run(alloc)?)?
+        .subcommand(talk(alloc)?)?
+        .subcommand(engine(alloc)?)?
+        .subcommand(ide(alloc)?)?
+        .subcommand(replay(alloc)?)?
         .subcommand(Command::new(alloc, "show"))
 }
 
-/// How many words stand behind the command, by its matches.
-fn word_count(inner: &ArgMatches) -> usize
-    ensures { result ≡ count_in (rows_of (found_of inner.now)) }
+/// The word of this name that is given.
+pub(crate) fn word_of<'a>(given: &ArgMatches<'a>, name: &str) -> Option<&'a str>
+    ensures { option_map (λ word. word.now) result ≡ first_of name.now (rows_of (found_of given.now)) }
 {
-    match inner.get_raw("words") {
+    given.get_str(name)
+}
+
+/// How many files are given.
+fn file_count(given: &ArgMatches) -> usize
+    ensures { result ≡ count_in (rows_of (found_of given.now)) }
+{
+    match given.get_raw("FILE") {
         Some(raw) => raw.len(),
         None => 0,
     }
 }
 
-/// The bound that stands before them, by its matches.
-fn bound_in<'a>(inner: &ArgMatches<'a>) -> Option<&'a str>
-    ensures { option_map (λ word. word.now) result ≡ first_of (codes "bound") (rows_of (found_of inner.now)) }
+/// The files that are given: they are the last of the words.
+pub(crate) fn files_of<'a>(words: &'a [String], given: &ArgMatches) -> &'a [String]
+    requires few { count_in (rows_of (found_of given.now)) ≤ length words.now }
+    ensures { result.now ≡ drop (length words.entry.now - count_in (rows_of (found_of given.now))) words.entry.now }
 {
-    inner.get_str("bound")
+    &words[words.len() - file_count(given)..]
 }
 
-/// The last of the words.
-fn last_words(words: &[String], count: usize) -> &[String]
-    requires { count ≤ length words.now }
-    ensures { result.now ≡ drop (length words.now - count) words.now }
-{
-    &words[words.len() - count..]
-}
-
-/// What was read, by its matches.
-fn parsed_in<'a>(words: &'a [String], matches: &ArgMatches<'a>) -> Option<Parsed<'a>>
-    requires rows { AreRows (map string_bytes words.now) matches.now }
-    ensures parsed { IfSome result (λ p. IsParsed (map string_bytes words.entry.now) (parsed_seen p)) }
-    ensures some { is_some result ≡ true }
-{
-    match matches.subcommand() {
-        None => None,
-        Some((name, inner)) => {
-            let count = word_count(inner);
-            let bound = bound_in(inner);
-            let words = last_words(words, count);
-            Some(Parsed { name, bound, words })
-        }
-    }
-}
-
-/// What is read of the words, if they are read.
-pub(crate) fn parse<'a>(alloc: Global, words: &'a [String]) -> Result<Option<Parsed<'a>>, Memory>
+/// The matches of the words, if they are read.
+pub(crate) fn parse<'a>(
+    alloc: Global,
+    words: &'a [String],
+) -> Result<Option<ArgMatches<'a>>, Memory>
     requires plain { plain.are_plain (map string_bytes words.now) ≡ true }
-    ensures found { IfOk result (λ read. IfSome read (λ p.
-        IsParsed (map string_bytes words.entry.now) (parsed_seen p))) }
+    ensures found { IfOk result (λ read. IfSome read (AreRows (map string_bytes words.entry.now))) }
     ensures none { result ≡ Ok None → (task : Task) → IsInvocation (map string_bytes words.now) task → ⊥ }
 {
     match program(alloc)?.try_get_matches_from(words) {
-        Ok(matches) => Ok(parsed_in(words, &matches)),
+        Ok(matches) => Ok(Some(matches)),
         Err(why) => refused(why),
     }
 }
 
 /// Words that are not read, unless memory ran out.
-fn refused<'a>(why: Error) -> Result<Option<Parsed<'a>>, Memory>
+fn refused<'a>(why: Error) -> Result<Option<ArgMatches<'a>>, Memory>
     ensures { MatchResult result (λ read. (read ≡ None) × (kind_of why ≢ OutOfMemory))
         (λ _. kind_of why ≡ OutOfMemory) }
 {

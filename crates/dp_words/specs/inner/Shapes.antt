@@ -1,32 +1,79 @@
--- The command that reads the words: each command of the program with a bound or without, and with
--- words behind it or without.
-use Rattle.std.specs.Prelude.{ℕ, true, false, List, [], ◌∷◌, Some, codes}
-use Rattle.clap.specs.Lexer.{usize_max}
+-- The command that reads the words: a row for each command of the program, by the names of what
+-- stands behind it.
+use Rattle.std.specs.Prelude.{true, false, List, [], ◌∷◌, ◌++◌, map, Some, codes}
 use Rattle.clap.specs.Simple.{App, Shape, new_rule, new_shape}
-use Rattle.clap.specs.Walk.{Rule}
+use Rattle.clap.specs.Walk.{Rule, Text}
+use Rattle.dp_tree.specs.FileNames.{file_count_limit}
 use Rattle.clap.specs.declared.builder.action.ArgAction.TheVariants.{Set, Append}
 
+-- `--bound N`
 abbrev pub bound_rule : Rule
 bound_rule = record (new_rule (codes "bound")) { long = Some (codes "bound"); action = Some Set }
 
-abbrev pub words_rule : Rule
-words_rule = record (new_rule (codes "words")) {
+-- one word, by its name
+abbrev pub word_rule : Text → Rule
+word_rule id = record (new_rule id) { action = Some Set; required = true }
+
+-- FILE..: as many words as a program may have files
+abbrev pub files_rule : Rule
+files_rule = record (new_rule (codes "FILE")) {
   action = Some Append;
-  range = Some (record { start_inclusive = 1; end_inclusive = usize_max });
+  range = Some (record { start_inclusive = 1; end_inclusive = file_count_limit });
   required = true;
 }
 
-abbrev pub with_rules : List ℕ → List Rule → Shape
+abbrev pub with_rules : Text → List Rule → Shape
 with_rules name rules = record (new_shape name) { rules = rules }
 
-abbrev pub bounded : List ℕ → Shape
-bounded name = with_rules name (bound_rule ∷ words_rule ∷ [])
+-- the words of these names, in their order
+abbrev pub words_of : List Text → List Rule
+words_of = map word_rule
 
-abbrev pub unbounded : List ℕ → Shape
-unbounded name = with_rules name (words_rule ∷ [])
+-- `NAME [--bound N]`
+abbrev pub bounded : Text → Shape
+bounded name = with_rules name (bound_rule ∷ [])
 
-abbrev pub wordless : List ℕ → Shape
-wordless name = with_rules name []
+-- `NAME [--bound N] .. FILE..`, with these words
+abbrev pub program_row : Text → List Text → Shape
+program_row name ids = with_rules name (bound_rule ∷ (words_of ids ++ files_rule ∷ []))
+
+-- `NAME ..`, with these words
+abbrev pub plain_row : Text → List Text → Shape
+plain_row name ids = with_rules name (words_of ids)
+
+-- ---- the names of the words
+
+abbrev pub talk_words : List Text
+talk_words = codes "KEY" ∷ []
+
+abbrev pub engine_words : List Text
+engine_words = codes "HOST" ∷ codes "PORT" ∷ codes "KEY" ∷ []
+
+abbrev pub ide_words : List Text
+ide_words = codes "PORT" ∷ codes "SCRIPT" ∷ []
+
+abbrev pub replay_words : List Text
+replay_words = codes "EVENTS" ∷ []
+
+-- ---- the commands
+
+abbrev pub run : Shape
+run = program_row (codes "run") []
+
+abbrev pub talk : Shape
+talk = program_row (codes "talk") talk_words
+
+abbrev pub engine : Shape
+engine = program_row (codes "engine") engine_words
+
+abbrev pub ide : Shape
+ide = plain_row (codes "ide") ide_words
+
+abbrev pub replay : Shape
+replay = program_row (codes "replay") replay_words
+
+abbrev pub show : Shape
+show = plain_row (codes "show") []
 
 abbrev pub top : Shape
 top = record (new_shape (codes "dbgp")) {
@@ -43,6 +90,5 @@ settings = record { top = top; subs = [] }
 abbrev pub program : App
 program = record {
   top = record top { is_leaf = false };
-  subs = bounded (codes "run") ∷ bounded (codes "talk") ∷ bounded (codes "engine")
-      ∷ unbounded (codes "ide") ∷ bounded (codes "replay") ∷ wordless (codes "show") ∷ [];
+  subs = run ∷ talk ∷ engine ∷ ide ∷ replay ∷ show ∷ [];
 }

@@ -1,10 +1,10 @@
-use Rattle.std.proofs.Common.{◌≡◌, false, true, rules, ap, ap₂, ◌∙◌, refl, codes}
+use Rattle.std.proofs.Common.{◌≡◌, false, true, rules, ap, ap₂, ◌∙◌, refl}
 use Rattle.std.proofs.lemmas.Result.{IfOk-weaker}
 use Rattle.clap.specs.Words.{App, Shape, shape_of, with_subcommand}
 use Rattle.clap.specs.declared.builder.command.Command.{Command}
 use Rattle.clap.specs.declared.builder.command.Command.TheViews.{out-Command}
 use Rattle.clap.proofs.SimpleLemmas.{plain_fields}
-use Rattle.dp_words.specs.inner.Shapes.{bounded, settings, unbounded, wordless}
+use Rattle.dp_words.specs.inner.Shapes as row
 use Rattle.dp_words.proofs.parser.program.Goals as goal
 
 -- a command of a plain shape has no global argument
@@ -13,12 +13,12 @@ local c s is plain = (plain_fields c (ap (λ (x : Shape). x.is_plain) is ∙ pla
 
 pub returns : goal.returns
 returns c =
-    let run_is : shape_of c.in_ok-bounded.field-0 ≡ bounded (codes "run") = search rules in
-    let talk_is : shape_of c.in_ok-bounded-2.field-0 ≡ bounded (codes "talk") = search rules in
-    let engine_is : shape_of c.in_ok-bounded-3.field-0 ≡ bounded (codes "engine") = search rules in
-    let ide_is : shape_of c.in_ok-unbounded.field-0 ≡ unbounded (codes "ide") = search rules in
-    let replay_is : shape_of c.in_ok-bounded-4.field-0 ≡ bounded (codes "replay") = search rules in
-    let show_is : shape_of c.new.result ≡ wordless (codes "show") = ap (λ (a : App). a.top) c.new.ensures.app in
+    let run_is : shape_of c.in_ok-run.field-0 ≡ row.run = search rules in
+    let talk_is : shape_of c.in_ok-talk.field-0 ≡ row.talk = search rules in
+    let engine_is : shape_of c.in_ok-engine.field-0 ≡ row.engine = search rules in
+    let ide_is : shape_of c.in_ok-ide.field-0 ≡ row.ide = search rules in
+    let replay_is : shape_of c.in_ok-replay.field-0 ≡ row.replay = search rules in
+    let show_is : shape_of c.new.result ≡ row.show = ap (λ (a : App). a.top) c.new.ensures.app in
     let one = c.in_ok-subcommand.ensures.shape (local _ _ run_is refl) ∙ ap₂ with_subcommand c.settings.ensures run_is
     in
     let two = c.in_ok-subcommand-2.ensures.shape (local _ _ talk_is refl) ∙ ap₂ with_subcommand one talk_is in

@@ -1,0 +1,564 @@
+-- What the matches of a command hold says what is asked for.
+use Rattle.std.proofs.Common.{◌≡◌, ℕ, ◌≤◌, ◌+◌, ◌-◌, List, [], ◌∷◌, ◌++◌, length, map, drop, Option, Some, None, Box, refl, sym, ap, ap₂, ◌∙◌, subst, arith, codes, String, string_bytes, Global}
+use Rattle.std.specs.Prelude.{get_or, option_and_then}
+use Rattle.std.specs.Option.{option_map, option_map_or}
+use Rattle.std.proofs.lemmas.List.{drop-map, length-append, length-map}
+use Rattle.std.specs.Box.{box_value}
+use Rattle.clap.specs.Simple.{subcommand_rows}
+use Rattle.clap.specs.Matches.{subcommand_name_of}
+use Rattle.clap.specs.declared.parser.matches.ArgMatches.{ArgMatches}
+use Rattle.clap.specs.declared.parser.matches.ArgMatches.TheViews.{out-ArgMatches, out-SubCommand}
+use Rattle.clap.specs.declared.parser.matches.SubCommand.{SubCommand}
+use Rattle.clap.specs.Walk.{Row, Text, first_of}
+use Rattle.dp_words.specs.CommandLine.{Address, AreFileWords, Invocation, IsFileWord, IsHostWord, IsInvocation, IsSession, Task, run, talk, engine, ide, replay, show, invocation_of, port_of}
+use Rattle.dp_words.specs.inner.Given.{Given, engine_given, ide_given, replay_given, run_given, show_given, talk_given, requested, bound_given, bound_in, bounded, files_in, first_in, name_in, rows_in, words_in, are_plain_in}
+use Rattle.dp_words.specs.inner.Rows.{AreRows, IsGiven, count_in, program_in}
+use Rattle.dp_words.proofs.Readings.{invoked, named, name_of}
+
+-- ---- what the rows hold
+
+count_said : (g : Given) → count_in (rows_in g) ≡ length (files_in g)
+count_said (run_given None []) = refl
+count_said (run_given None (f ∷ fs)) = refl
+count_said (run_given (Some n) []) = refl
+count_said (run_given (Some n) (f ∷ fs)) = refl
+count_said (talk_given None key []) = refl
+count_said (talk_given None key (f ∷ fs)) = refl
+count_said (talk_given (Some n) key []) = refl
+count_said (talk_given (Some n) key (f ∷ fs)) = refl
+count_said (engine_given None host port key []) = refl
+count_said (engine_given None host port key (f ∷ fs)) = refl
+count_said (engine_given (Some n) host port key []) = refl
+count_said (engine_given (Some n) host port key (f ∷ fs)) = refl
+count_said (replay_given None events []) = refl
+count_said (replay_given None events (f ∷ fs)) = refl
+count_said (replay_given (Some n) events []) = refl
+count_said (replay_given (Some n) events (f ∷ fs)) = refl
+count_said (ide_given port script) = refl
+count_said show_given = refl
+
+bound_said : (g : Given) → first_of (codes "bound") (rows_in g) ≡ bound_in g
+bound_said (run_given None []) = refl
+bound_said (run_given None (f ∷ fs)) = refl
+bound_said (run_given (Some n) []) = refl
+bound_said (run_given (Some n) (f ∷ fs)) = refl
+bound_said (talk_given None key []) = refl
+bound_said (talk_given None key (f ∷ fs)) = refl
+bound_said (talk_given (Some n) key []) = refl
+bound_said (talk_given (Some n) key (f ∷ fs)) = refl
+bound_said (engine_given None host port key []) = refl
+bound_said (engine_given None host port key (f ∷ fs)) = refl
+bound_said (engine_given (Some n) host port key []) = refl
+bound_said (engine_given (Some n) host port key (f ∷ fs)) = refl
+bound_said (replay_given None events []) = refl
+bound_said (replay_given None events (f ∷ fs)) = refl
+bound_said (replay_given (Some n) events []) = refl
+bound_said (replay_given (Some n) events (f ∷ fs)) = refl
+bound_said (ide_given port script) = refl
+bound_said show_given = refl
+
+key_of_talk : (bound : Option Text) (key : Text) (files : List Text)
+    → first_of (codes "KEY") (rows_in (talk_given bound key files)) ≡ Some key
+key_of_talk None key files = refl
+key_of_talk (Some n) key files = refl
+
+events_of_replay : (bound : Option Text) (events : Text) (files : List Text)
+    → first_of (codes "EVENTS") (rows_in (replay_given bound events files)) ≡ Some events
+events_of_replay None events files = refl
+events_of_replay (Some n) events files = refl
+
+module _ (host port key : Text) (files : List Text) where
+  host_of_engine : (bound : Option Text) → first_of (codes "HOST") (rows_in (engine_given bound host port key files))
+      ≡ Some host
+  host_of_engine None = refl
+  host_of_engine (Some n) = refl
+
+  port_of_engine : (bound : Option Text) → first_of (codes "PORT") (rows_in (engine_given bound host port key files))
+      ≡ Some port
+  port_of_engine None = refl
+  port_of_engine (Some n) = refl
+
+  key_of_engine : (bound : Option Text) → first_of (codes "KEY") (rows_in (engine_given bound host port key files))
+      ≡ Some key
+  key_of_engine None = refl
+  key_of_engine (Some n) = refl
+
+-- ---- the files are the last of the words
+
+drop_front : (front words : List Text) → drop (length front) (front ++ words) ≡ words
+drop_front [] words = refl
+drop_front (w ∷ front) words = drop_front front words
+
+last_of : (all front words : List Text) (count : ℕ) → all ≡ front ++ words → count ≡ length words
+    → drop (length all - count) all ≡ words
+last_of all front words count is few =
+    let whole : length all - count ≡ length front = omega (
+      arith,
+      ap (λ (l : List Text). length l) is,
+      few,
+      length-append front words,
+    ) in
+    ap₂ drop whole is ∙ drop_front front words
+
+-- the words before the files
+abbrev front_of : Given → List Text
+front_of g = name_in g ∷ bounded (bound_in g) (first_in g)
+
+front_is : (g : Given) → words_in g ≡ front_of g ++ files_in g
+front_is (run_given None files) = refl
+front_is (run_given (Some n) files) = refl
+front_is (talk_given None key files) = refl
+front_is (talk_given (Some n) key files) = refl
+front_is (engine_given None host port key files) = refl
+front_is (engine_given (Some n) host port key files) = refl
+front_is (replay_given None events files) = refl
+front_is (replay_given (Some n) events files) = refl
+front_is (ide_given port script) = refl
+front_is show_given = refl
+
+module _ (words : List (String Global)) (name : Text) (rows : List Row) (i : IsGiven (map string_bytes words) name
+    rows)
+  where
+    count_is : count_in rows ≡ length (files_in i.given)
+    count_is = ap count_in i.rows_are ∙ count_said i.given
+
+    pub few_files : count_in rows ≤ length words
+    few_files = omega (
+      arith,
+      count_is,
+      length-map words string_bytes,
+      ap (λ (l : List Text). length l) (i.words_are ∙ front_is i.given),
+      length-append (front_of i.given) (files_in i.given),
+    )
+
+    files_are : map string_bytes (drop (length words - count_in rows) words) ≡ files_in i.given
+    files_are =
+        sym (drop-map string_bytes (length words - count_in rows) words)
+        ∙ ap (λ (n : ℕ). drop (n - count_in rows) (map string_bytes words)) (sym (length-map words string_bytes))
+        ∙ last_of (map string_bytes words) (front_of i.given) (files_in i.given) (count_in rows)
+        (i.words_are ∙ front_is i.given) count_is
+
+    program_is : program_in rows words ≡ requested (bound_in i.given) (files_in i.given)
+    program_is =
+        ap₂ (λ (o : Option Text) (l : List Text). requested o l)
+        (ap (first_of (codes "bound")) i.rows_are ∙ bound_said i.given) files_are
+
+-- ---- the bound and the names
+
+-- a program with one more name in front, or one less
+longer : (bound : Option Text) (name : Text) (names : List Text) (ask : Invocation) → requested bound names ≡ Some ask
+    → requested bound (name ∷ names) ≡ Some (record { bound = ask.bound; names = name ∷ ask.names })
+longer bound name names ask e = by (bound_given bound) e where
+  by : (o : Option ℕ) → option_map {U = Invocation} (λ (n : ℕ). record { bound = n; names = names }) o ≡ Some ask
+      → option_map {U = Invocation} (λ (n : ℕ). record { bound = n; names = name ∷ names }) o
+      ≡ Some (record { bound = ask.bound; names = name ∷ ask.names })
+  by None none = absurd cc
+  by (Some n) some =
+      ap (option_map {U = Invocation} (λ (a : Invocation). record { bound = a.bound; names = name ∷ a.names })) some
+
+shorter : (bound : Option Text) (name other : Text) (names : List Text) (ask : Invocation)
+    → requested bound (name ∷ names) ≡ Some (record { bound = ask.bound; names = other ∷ ask.names })
+    → (name ≡ other) × (requested bound names ≡ Some ask)
+shorter bound name other names ask e = by (bound_given bound) e where
+  by : (o : Option ℕ) → option_map {U = Invocation} (λ (n : ℕ). record { bound = n; names = name ∷ names }) o
+      ≡ Some (record { bound = ask.bound; names = other ∷ ask.names })
+      → (name ≡ other) × (option_map {U = Invocation} (λ (n : ℕ). record { bound = n; names = names }) o ≡ Some ask)
+  by None none = absurd cc
+  by (Some n) some = (
+    ap (λ (o : Option Invocation). option_map_or (λ (a : Invocation). get_or a.names 0 name) o name) some,
+    ap (option_map {U = Invocation} (λ (a : Invocation). record { bound = a.bound; names = drop 1 a.names })) some,
+  )
+
+-- no two names have the same second letter
+abbrev letter : Text → ℕ
+letter [] = 0
+letter (a ∷ []) = a
+letter (a ∷ b ∷ more) = b
+
+the_same : {A : Type 0} (x y : A) → Some x ≡ Some y → x ≡ y
+the_same x y e = ap (λ o. option_map_or (λ a. a) o x) e
+
+-- the words behind the command
+behind_is : (words behind other : List Text) (name : Text) → words ≡ name ∷ behind → words ≡ name ∷ other
+    → behind ≡ other
+behind_is words behind other name p q = ap (λ (l : List Text). drop 1 l) (sym p ∙ q)
+
+-- ---- each command
+
+module _ (words : List (String Global)) (name : Text) (rows : List Row) (i : IsGiven (map string_bytes words) name
+    rows)
+  where
+    abbrev all : List Text
+    all = map string_bytes words
+
+    -- another command is not given
+    differs : (known : Text) (g : Given) → i.given ≡ g → name ≡ known → letter known ≡ letter (name_in g)
+    differs known g at is = ap letter (sym is ∙ i.name_is ∙ ap name_in at)
+
+    -- nor asked for
+    clashes : (known : Text) (task : Task) → name ≡ known
+        → IsInvocation all task → letter known ≡ letter (name_of task)
+    clashes known task is asks =
+        ap letter (sym is ∙ i.name_is ∙ ap (λ (l : List Text). get_or l 0 []) (sym i.words_are ∙ (named all task
+        asks).1))
+
+    module _ (g : Given) (at : i.given ≡ g) where
+      words_at : all ≡ words_in g
+      words_at = i.words_are ∙ ap words_in at
+
+      rows_at : rows ≡ rows_in g
+      rows_at = i.rows_are ∙ ap rows_in at
+
+      program_at : program_in rows words ≡ requested (bound_in g) (files_in g)
+      program_at = program_is words name rows i ∙ ap (λ (x : Given). requested (bound_in x) (files_in x)) at
+
+      invoked_at : invocation_of (bounded (bound_in g) (first_in g ++ files_in g))
+          ≡ requested (bound_in g) (first_in g ++ files_in g)
+      invoked_at =
+          invoked (bound_in g) (first_in g ++ files_in g) (ap (λ (x : Given). are_plain_in x) (sym at) ∙ i.plain)
+
+      -- what another spelling of the words behind asks for
+      asked_by : (behind : List Text) → all ≡ name_in g ∷ behind
+          → invocation_of behind ≡ requested (bound_in g) (first_in g ++ files_in g)
+      asked_by behind is =
+          ap invocation_of (behind_is all behind (bounded (bound_in g) (first_in g ++ files_in g)) (name_in g) is
+          words_at)
+          ∙ invoked_at
+
+    -- ---- `run`
+
+    pub run_found : name ≡ codes "run" → (ask : Invocation) → program_in rows words ≡ Some ask → AreFileWords
+        ask.names
+        → IsInvocation all (run ask)
+    run_found is ask program files_named = by i.given refl where
+      by : (g : Given) → i.given ≡ g → IsInvocation all (run ask)
+      by (run_given bound files) at =
+          let g = run_given bound files in
+          record {
+            behind = bounded bound files;
+            words_are = words_at g at;
+            follows = record { invocation = invoked_at g at ∙ sym (program_at g at) ∙ program; files = files_named };
+          }
+      by (talk_given x0 x1 x2) at = absurd (omega (arith, differs (codes "run") (talk_given x0 x1 x2) at is))
+      by (engine_given x0 x1 x2 x3 x4) at =
+          absurd (omega (arith, differs (codes "run") (engine_given x0 x1 x2 x3 x4) at is))
+      by (ide_given x0 x1) at = absurd (omega (arith, differs (codes "run") (ide_given x0 x1) at is))
+      by (replay_given x0 x1 x2) at = absurd (omega (arith, differs (codes "run") (replay_given x0 x1 x2) at is))
+      by show_given at = absurd (omega (arith, differs (codes "run") show_given at is))
+
+    pub run_none : name ≡ codes "run"
+        → ((ask : Invocation) → program_in rows words ≡ Some ask → AreFileWords ask.names → ⊥)
+        → (task : Task) → IsInvocation all task → ⊥
+    run_none is none = by i.given refl where
+      by : (g : Given) → i.given ≡ g → (task : Task) → IsInvocation all task → ⊥
+      by (run_given bound files) at = by_task where
+        g : Given
+        g = run_given bound files
+
+        by_task : (task : Task) → IsInvocation all task → ⊥
+        by_task (run ask) asks =
+            none ask (program_at g at ∙ sym (asked_by g at asks.behind asks.words_are) ∙ asks.follows.invocation)
+            asks.follows.files
+        by_task (talk k asking) asks = omega (arith, clashes (codes "run") (talk k asking) is asks)
+        by_task (engine a k asking) asks = omega (arith, clashes (codes "run") (engine a k asking) is asks)
+        by_task (ide n s) asks = omega (arith, clashes (codes "run") (ide n s) is asks)
+        by_task (replay e asking) asks = omega (arith, clashes (codes "run") (replay e asking) is asks)
+        by_task show asks = omega (arith, clashes (codes "run") show is asks)
+      by (talk_given x0 x1 x2) at = absurd (omega (arith, differs (codes "run") (talk_given x0 x1 x2) at is))
+      by (engine_given x0 x1 x2 x3 x4) at =
+          absurd (omega (arith, differs (codes "run") (engine_given x0 x1 x2 x3 x4) at is))
+      by (ide_given x0 x1) at = absurd (omega (arith, differs (codes "run") (ide_given x0 x1) at is))
+      by (replay_given x0 x1 x2) at = absurd (omega (arith, differs (codes "run") (replay_given x0 x1 x2) at is))
+      by show_given at = absurd (omega (arith, differs (codes "run") show_given at is))
+
+    -- ---- `talk`
+
+    pub talk_found : name ≡ codes "talk" → (key : Text) (ask : Invocation) → first_of (codes "KEY") rows ≡ Some key
+        → program_in rows words ≡ Some ask → IsSession key ask → IsInvocation all (talk key ask)
+    talk_found is key ask key_is program session = by i.given refl where
+      by : (g : Given) → i.given ≡ g → IsInvocation all (talk key ask)
+      by (talk_given bound k files) at =
+          let g = talk_given bound k files in
+          let same : k ≡ key = the_same k key
+          (sym (key_of_talk bound k files) ∙ ap (first_of (codes "KEY")) (sym (rows_at g at)) ∙ key_is) in
+          subst (λ (x : Text). IsInvocation all (talk x ask)) same
+          (record {
+            behind = bounded bound (k ∷ files);
+            words_are = words_at g at;
+            speaks = record {
+              invocation = invoked_at g at ∙ longer bound k files ask (sym (program_at g at) ∙ program);
+              session = subst (λ (x : Text). IsSession x ask) (sym same) session;
+            };
+          })
+      by (run_given x0 x1) at = absurd (omega (arith, differs (codes "talk") (run_given x0 x1) at is))
+      by (engine_given x0 x1 x2 x3 x4) at =
+          absurd (omega (arith, differs (codes "talk") (engine_given x0 x1 x2 x3 x4) at is))
+      by (ide_given x0 x1) at = absurd (omega (arith, differs (codes "talk") (ide_given x0 x1) at is))
+      by (replay_given x0 x1 x2) at = absurd (omega (arith, differs (codes "talk") (replay_given x0 x1 x2) at is))
+      by show_given at = absurd (omega (arith, differs (codes "talk") show_given at is))
+
+    pub talk_none : name ≡ codes "talk"
+        → ((key : Text) (ask : Invocation) → first_of (codes "KEY") rows ≡ Some key → program_in rows words ≡ Some ask
+        → IsSession key ask → ⊥)
+        → (task : Task) → IsInvocation all task → ⊥
+    talk_none is none = by i.given refl where
+      by : (g : Given) → i.given ≡ g → (task : Task) → IsInvocation all task → ⊥
+      by (talk_given bound key files) at = by_task where
+        g : Given
+        g = talk_given bound key files
+
+        by_task : (task : Task) → IsInvocation all task → ⊥
+        by_task (talk k ask) asks =
+            let one = shorter bound key k files ask
+            (sym (asked_by g at asks.behind asks.words_are) ∙ asks.speaks.invocation) in
+            none key ask (ap (first_of (codes "KEY")) (rows_at g at) ∙ key_of_talk bound key files)
+            (program_at g at ∙ one.1) (subst (λ (x : Text). IsSession x ask) (sym one.0) asks.speaks.session)
+        by_task (run asking) asks = omega (arith, clashes (codes "talk") (run asking) is asks)
+        by_task (engine a k asking) asks = omega (arith, clashes (codes "talk") (engine a k asking) is asks)
+        by_task (ide n s) asks = omega (arith, clashes (codes "talk") (ide n s) is asks)
+        by_task (replay e asking) asks = omega (arith, clashes (codes "talk") (replay e asking) is asks)
+        by_task show asks = omega (arith, clashes (codes "talk") show is asks)
+      by (run_given x0 x1) at = absurd (omega (arith, differs (codes "talk") (run_given x0 x1) at is))
+      by (engine_given x0 x1 x2 x3 x4) at =
+          absurd (omega (arith, differs (codes "talk") (engine_given x0 x1 x2 x3 x4) at is))
+      by (ide_given x0 x1) at = absurd (omega (arith, differs (codes "talk") (ide_given x0 x1) at is))
+      by (replay_given x0 x1 x2) at = absurd (omega (arith, differs (codes "talk") (replay_given x0 x1 x2) at is))
+      by show_given at = absurd (omega (arith, differs (codes "talk") show_given at is))
+
+    -- ---- `engine`
+
+    pub engine_found : name ≡ codes "engine" → (address : Address) (key : Text) (ask : Invocation)
+        → first_of (codes "HOST") rows ≡ Some address.host
+        → option_and_then port_of (first_of (codes "PORT") rows) ≡ Some address.port
+        → first_of (codes "KEY") rows ≡ Some key → program_in rows words ≡ Some ask
+        → IsHostWord address.host → IsSession key ask → IsInvocation all (engine address key ask)
+    engine_found is address key ask host_is port_is key_is program hosted session = by i.given refl where
+      by : (g : Given) → i.given ≡ g → IsInvocation all (engine address key ask)
+      by (engine_given bound h p k files) at =
+          let g = engine_given bound h p k files in
+          let same_host : h ≡ address.host = the_same h address.host
+          (sym (host_of_engine h p k files bound) ∙ ap (first_of (codes "HOST")) (sym (rows_at g at)) ∙ host_is) in
+          let same_key : k ≡ key = the_same k key
+          (sym (key_of_engine h p k files bound) ∙ ap (first_of (codes "KEY")) (sym (rows_at g at)) ∙ key_is) in
+          let ported : port_of p ≡ Some address.port =
+          sym (ap (λ (o : Option Text). option_and_then port_of o)
+          (ap (first_of (codes "PORT")) (rows_at g at) ∙ port_of_engine h p k files bound)) ∙ port_is in
+          subst (λ (x : Text). IsInvocation all (engine (record { host = x; port = address.port }) key ask)) same_host
+          (subst (λ (x : Text). IsInvocation all (engine (record { host = h; port = address.port }) x ask)) same_key
+          (record {
+            behind = bounded bound (h ∷ p ∷ k ∷ files);
+            words_are = words_at g at;
+            dials = record {
+              number = p;
+              invocation = invoked_at g at ∙ longer bound h (p ∷ k ∷ files) _ (longer bound p (k ∷ files) _
+                  (longer bound k files ask (sym (program_at g at) ∙ program)));
+              host = subst IsHostWord (sym same_host) hosted;
+              port = ported;
+              session = subst (λ (x : Text). IsSession x ask) (sym same_key) session;
+            };
+          }))
+      by (run_given x0 x1) at = absurd (omega (arith, differs (codes "engine") (run_given x0 x1) at is))
+      by (talk_given x0 x1 x2) at = absurd (omega (arith, differs (codes "engine") (talk_given x0 x1 x2) at is))
+      by (ide_given x0 x1) at = absurd (omega (arith, differs (codes "engine") (ide_given x0 x1) at is))
+      by (replay_given x0 x1 x2) at = absurd (omega (arith, differs (codes "engine") (replay_given x0 x1 x2) at is))
+      by show_given at = absurd (omega (arith, differs (codes "engine") show_given at is))
+
+    pub engine_none : name ≡ codes "engine"
+        → ((host number key : Text) (port : ℕ) (ask : Invocation) → first_of (codes "HOST") rows ≡ Some host
+        → first_of (codes "PORT") rows ≡ Some number → first_of (codes "KEY") rows ≡ Some key
+        → program_in rows words ≡ Some ask → IsHostWord host → port_of number ≡ Some port → IsSession key ask → ⊥)
+        → (task : Task) → IsInvocation all task → ⊥
+    engine_none is none = by i.given refl where
+      by : (g : Given) → i.given ≡ g → (task : Task) → IsInvocation all task → ⊥
+      by (engine_given bound h p k files) at = by_task where
+        g : Given
+        g = engine_given bound h p k files
+
+        by_task : (task : Task) → IsInvocation all task → ⊥
+        by_task (engine address key ask) asks =
+            let d = asks.dials in
+            let one = shorter bound h address.host (p ∷ k ∷ files)
+            (record { bound = ask.bound; names = d.number ∷ key ∷ ask.names })
+            (sym (asked_by g at asks.behind asks.words_are) ∙ d.invocation) in
+            let two = shorter bound p d.number (k ∷ files) (record { bound = ask.bound; names = key ∷ ask.names })
+            one.1 in
+            let three = shorter bound k key files ask two.1 in
+            none h p k address.port ask
+            (ap (first_of (codes "HOST")) (rows_at g at) ∙ host_of_engine h p k files bound)
+            (ap (first_of (codes "PORT")) (rows_at g at) ∙ port_of_engine h p k files bound)
+            (ap (first_of (codes "KEY")) (rows_at g at) ∙ key_of_engine h p k files bound)
+            (program_at g at ∙ three.1) (subst IsHostWord (sym one.0) d.host) (ap port_of two.0 ∙ d.port)
+            (subst (λ (x : Text). IsSession x ask) (sym three.0) d.session)
+        by_task (run asking) asks = omega (arith, clashes (codes "engine") (run asking) is asks)
+        by_task (talk k asking) asks = omega (arith, clashes (codes "engine") (talk k asking) is asks)
+        by_task (ide n s) asks = omega (arith, clashes (codes "engine") (ide n s) is asks)
+        by_task (replay e asking) asks = omega (arith, clashes (codes "engine") (replay e asking) is asks)
+        by_task show asks = omega (arith, clashes (codes "engine") show is asks)
+      by (run_given x0 x1) at = absurd (omega (arith, differs (codes "engine") (run_given x0 x1) at is))
+      by (talk_given x0 x1 x2) at = absurd (omega (arith, differs (codes "engine") (talk_given x0 x1 x2) at is))
+      by (ide_given x0 x1) at = absurd (omega (arith, differs (codes "engine") (ide_given x0 x1) at is))
+      by (replay_given x0 x1 x2) at = absurd (omega (arith, differs (codes "engine") (replay_given x0 x1 x2) at is))
+      by show_given at = absurd (omega (arith, differs (codes "engine") show_given at is))
+
+    -- ---- `ide`
+
+    pub ide_found : name ≡ codes "ide" → (port : ℕ) (script : Text)
+        → option_and_then port_of (first_of (codes "PORT") rows) ≡ Some port
+        → first_of (codes "SCRIPT") rows ≡ Some script → IsFileWord script → IsInvocation all (ide port script)
+    ide_found is port script port_is script_is scripted = by i.given refl where
+      by : (g : Given) → i.given ≡ g → IsInvocation all (ide port script)
+      by (ide_given p s) at =
+          let g = ide_given p s in
+          let same : s ≡ script = the_same s script (ap (first_of (codes "SCRIPT")) (sym (rows_at g at)) ∙
+          script_is) in
+          let ported : port_of p ≡ Some port =
+          sym (ap (λ (o : Option Text). option_and_then port_of o) (ap (first_of (codes "PORT")) (rows_at g at)))
+          ∙ port_is in
+          subst (λ (x : Text). IsInvocation all (ide port x)) same
+          (record {
+            number = p;
+            words_are = words_at g at;
+            is_port = ported;
+            is_script = subst IsFileWord (sym same) scripted;
+          })
+      by (run_given x0 x1) at = absurd (omega (arith, differs (codes "ide") (run_given x0 x1) at is))
+      by (talk_given x0 x1 x2) at = absurd (omega (arith, differs (codes "ide") (talk_given x0 x1 x2) at is))
+      by (engine_given x0 x1 x2 x3 x4) at =
+          absurd (omega (arith, differs (codes "ide") (engine_given x0 x1 x2 x3 x4) at is))
+      by (replay_given x0 x1 x2) at = absurd (omega (arith, differs (codes "ide") (replay_given x0 x1 x2) at is))
+      by show_given at = absurd (omega (arith, differs (codes "ide") show_given at is))
+
+    pub ide_none : name ≡ codes "ide"
+        → ((number script : Text) (port : ℕ) → first_of (codes "PORT") rows ≡ Some number
+        → first_of (codes "SCRIPT") rows ≡ Some script → port_of number ≡ Some port → IsFileWord script → ⊥)
+        → (task : Task) → IsInvocation all task → ⊥
+    ide_none is none = by i.given refl where
+      by : (g : Given) → i.given ≡ g → (task : Task) → IsInvocation all task → ⊥
+      by (ide_given p s) at = by_task where
+        g : Given
+        g = ide_given p s
+
+        by_task : (task : Task) → IsInvocation all task → ⊥
+        by_task (ide port script) asks =
+            let same = behind_is all (p ∷ s ∷ []) (asks.number ∷ script ∷ []) (codes "ide") (words_at g at)
+            asks.words_are
+            in
+            let same_port : p ≡ asks.number = ap (λ (l : List Text). get_or l 0 []) same in
+            let same_script : s ≡ script = ap (λ (l : List Text). get_or l 1 []) same in
+            none p s port (ap (first_of (codes "PORT")) (rows_at g at)) (ap (first_of (codes "SCRIPT")) (rows_at g
+            at))
+            (ap port_of same_port ∙ asks.is_port) (subst IsFileWord (sym same_script) asks.is_script)
+        by_task (run asking) asks = omega (arith, clashes (codes "ide") (run asking) is asks)
+        by_task (talk k asking) asks = omega (arith, clashes (codes "ide") (talk k asking) is asks)
+        by_task (engine a k asking) asks = omega (arith, clashes (codes "ide") (engine a k asking) is asks)
+        by_task (replay e asking) asks = omega (arith, clashes (codes "ide") (replay e asking) is asks)
+        by_task show asks = omega (arith, clashes (codes "ide") show is asks)
+      by (run_given x0 x1) at = absurd (omega (arith, differs (codes "ide") (run_given x0 x1) at is))
+      by (talk_given x0 x1 x2) at = absurd (omega (arith, differs (codes "ide") (talk_given x0 x1 x2) at is))
+      by (engine_given x0 x1 x2 x3 x4) at =
+          absurd (omega (arith, differs (codes "ide") (engine_given x0 x1 x2 x3 x4) at is))
+      by (replay_given x0 x1 x2) at = absurd (omega (arith, differs (codes "ide") (replay_given x0 x1 x2) at is))
+      by show_given at = absurd (omega (arith, differs (codes "ide") show_given at is))
+
+    -- ---- `replay`
+
+    pub replay_found : name ≡ codes "replay" → (events : Text) (ask : Invocation)
+        → first_of (codes "EVENTS") rows ≡ Some events
+        → program_in rows words ≡ Some ask → IsFileWord events → AreFileWords ask.names
+        → IsInvocation all (replay events ask)
+    replay_found is events ask events_are program listed files_named = by i.given refl where
+      by : (g : Given) → i.given ≡ g → IsInvocation all (replay events ask)
+      by (replay_given bound e files) at =
+          let g = replay_given bound e files in
+          let same : e ≡ events = the_same e events
+          (sym (events_of_replay bound e files) ∙ ap (first_of (codes "EVENTS")) (sym (rows_at g at)) ∙ events_are) in
+          subst (λ (x : Text). IsInvocation all (replay x ask)) same
+          (record {
+            behind = bounded bound (e ∷ files);
+            words_are = words_at g at;
+            replays = record {
+              invocation = invoked_at g at ∙ longer bound e files ask (sym (program_at g at) ∙ program);
+              is_events = subst IsFileWord (sym same) listed;
+              files = files_named;
+            };
+          })
+      by (run_given x0 x1) at = absurd (omega (arith, differs (codes "replay") (run_given x0 x1) at is))
+      by (talk_given x0 x1 x2) at = absurd (omega (arith, differs (codes "replay") (talk_given x0 x1 x2) at is))
+      by (engine_given x0 x1 x2 x3 x4) at =
+          absurd (omega (arith, differs (codes "replay") (engine_given x0 x1 x2 x3 x4) at is))
+      by (ide_given x0 x1) at = absurd (omega (arith, differs (codes "replay") (ide_given x0 x1) at is))
+      by show_given at = absurd (omega (arith, differs (codes "replay") show_given at is))
+
+    pub replay_none : name ≡ codes "replay"
+        → ((events : Text) (ask : Invocation) → first_of (codes "EVENTS") rows ≡ Some events
+        → program_in rows words ≡ Some ask → IsFileWord events → AreFileWords ask.names → ⊥)
+        → (task : Task) → IsInvocation all task → ⊥
+    replay_none is none = by i.given refl where
+      by : (g : Given) → i.given ≡ g → (task : Task) → IsInvocation all task → ⊥
+      by (replay_given bound e files) at = by_task where
+        g : Given
+        g = replay_given bound e files
+
+        by_task : (task : Task) → IsInvocation all task → ⊥
+        by_task (replay events ask) asks =
+            let r = asks.replays in
+            let one = shorter bound e events files ask
+            (sym (asked_by g at asks.behind asks.words_are) ∙ r.invocation) in
+            none e ask (ap (first_of (codes "EVENTS")) (rows_at g at) ∙ events_of_replay bound e files)
+            (program_at g at ∙ one.1) (subst IsFileWord (sym one.0) r.is_events) r.files
+        by_task (run asking) asks = omega (arith, clashes (codes "replay") (run asking) is asks)
+        by_task (talk k asking) asks = omega (arith, clashes (codes "replay") (talk k asking) is asks)
+        by_task (engine a k asking) asks = omega (arith, clashes (codes "replay") (engine a k asking) is asks)
+        by_task (ide n s) asks = omega (arith, clashes (codes "replay") (ide n s) is asks)
+        by_task show asks = omega (arith, clashes (codes "replay") show is asks)
+      by (run_given x0 x1) at = absurd (omega (arith, differs (codes "replay") (run_given x0 x1) at is))
+      by (talk_given x0 x1 x2) at = absurd (omega (arith, differs (codes "replay") (talk_given x0 x1 x2) at is))
+      by (engine_given x0 x1 x2 x3 x4) at =
+          absurd (omega (arith, differs (codes "replay") (engine_given x0 x1 x2 x3 x4) at is))
+      by (ide_given x0 x1) at = absurd (omega (arith, differs (codes "replay") (ide_given x0 x1) at is))
+      by show_given at = absurd (omega (arith, differs (codes "replay") show_given at is))
+
+    -- ---- `show`: no other name is left
+
+    pub show_found : (name ≡ codes "run" → ⊥) → (name ≡ codes "talk" → ⊥) → (name ≡ codes "engine" → ⊥)
+        → (name ≡ codes "ide" → ⊥) → (name ≡ codes "replay" → ⊥) → IsInvocation all show
+    show_found a b c d e = by i.given refl where
+      by : (g : Given) → i.given ≡ g → IsInvocation all show
+      by show_given at = words_at show_given at
+      by (run_given bound files) at = absurd (a (i.name_is ∙ ap name_in at))
+      by (talk_given bound key files) at = absurd (b (i.name_is ∙ ap name_in at))
+      by (engine_given bound host port key files) at = absurd (c (i.name_is ∙ ap name_in at))
+      by (ide_given port script) at = absurd (d (i.name_is ∙ ap name_in at))
+      by (replay_given bound events files) at = absurd (e (i.name_is ∙ ap name_in at))
+
+-- ---- the matches of the whole
+
+module _ {Z : Type 0} where
+  named_so : (x : Option (Box SubCommand Z)) (n : Text) (rows : List Row) → subcommand_rows x ≡ Some (n, rows)
+      → option_map (λ b. (out-SubCommand (box_value b)).name.now) x ≡ Some n
+  named_so None n rows e = absurd cc
+  named_so (Some b) n rows e = ap (option_map (λ (p : Text × List Row). p.0)) e
+
+abbrev rows_or : Option (List Row) → List Row
+rows_or o = option_map_or (λ (rows : List Row). rows) o []
+
+abbrev name_or : Option Text → Text
+name_or o = option_map_or (λ (name : Text). name) o []
+
+module _ (words : List Text) (matches : ArgMatches) (r : AreRows words matches) where
+  named_in : subcommand_name_of matches ≡ Some (name_in r.given)
+  named_in = named_so (out-ArgMatches matches).subcommand (name_in r.given) (rows_in r.given) r.rows
+
+  pub given_of : (name : Text) (rows : List Row) → Some name ≡ subcommand_name_of matches
+      → Some rows ≡ option_map (λ (p : Text × List Row). p.1) (subcommand_rows (out-ArgMatches matches).subcommand)
+      → IsGiven words name rows
+  given_of name rows name_is rows_are = record {
+    given = r.given;
+    words_are = r.words_are;
+    plain = r.plain;
+    name_is = ap name_or (name_is ∙ named_in);
+    rows_are = ap rows_or (rows_are ∙ ap (option_map (λ (p : Text × List Row). p.1)) r.rows);
+  }
+
+  pub never_none : None ≡ subcommand_name_of matches → ⊥
+  never_none none = let e : None ≡ Some (name_in r.given) = none ∙ named_in in absurd cc
