@@ -25,7 +25,8 @@ returns-then-eq-2-clause-found c =
     let named : c.args.name.now ≡ codes "talk" = search rules in
     let v = c.in_ok-read_talk.field-0 in
     let f = c.in_ok-read_talk.ensures.found in
-    talk_found c.args.words.now c.args.name.now _ c.requires.given named v.key.now (invocation_seen v.program) f.0 f.1 f.2
+    talk_found c.args.words.now c.args.name.now _ c.requires.given named v.key.now (invocation_seen v.program)
+    f.0 f.1 f.2
 
 pub returns-in_err-read_talk-clause-none : goal.returns-in_err-read_talk-clause-none
 returns-in_err-read_talk-clause-none c =
@@ -37,13 +38,14 @@ returns-then-eq-3-clause-found c =
     let named : c.args.name.now ≡ codes "engine" = search rules in
     let v = c.in_ok-read_engine.field-0 in
     let f = c.in_ok-read_engine.ensures.found in
-    engine_found c.args.words.now c.args.name.now _ c.requires.given named (address_seen v.address) v.talk.key.now (invocation_seen v.talk.program) f.0
-    f.2 f.3 f.4 f.1 f.5
+    engine_found c.args.words.now c.args.name.now _ c.requires.given named (address_seen v.address) v.talk.key.now
+    (invocation_seen v.talk.program) f.0 f.2 f.3 f.4 f.1 f.5
 
 pub returns-in_err-read_engine-clause-none : goal.returns-in_err-read_engine-clause-none
 returns-in_err-read_engine-clause-none c =
     let named : c.args.name.now ≡ codes "engine" = search rules in
-    none_so _ _ (engine_none c.args.words.now c.args.name.now _ c.requires.given named c.in_err-read_engine.ensures.none)
+    none_so _ _ (engine_none c.args.words.now c.args.name.now _ c.requires.given named
+    c.in_err-read_engine.ensures.none)
 
 pub returns-then-eq-4-clause-found : goal.returns-then-eq-4-clause-found
 returns-then-eq-4-clause-found c =
@@ -62,12 +64,14 @@ returns-then-eq-5-clause-found c =
     let named : c.args.name.now ≡ codes "replay" = search rules in
     let v = c.in_ok-read_replay.field-0 in
     let f = c.in_ok-read_replay.ensures.found in
-    replay_found c.args.words.now c.args.name.now _ c.requires.given named v.events.now (invocation_seen v.program) f.0 f.1 f.2 f.3
+    replay_found c.args.words.now c.args.name.now _ c.requires.given named v.events.now
+    (invocation_seen v.program) f.0 f.1 f.2 f.3
 
 pub returns-in_err-read_replay-clause-none : goal.returns-in_err-read_replay-clause-none
 returns-in_err-read_replay-clause-none c =
     let named : c.args.name.now ≡ codes "replay" = search rules in
-    none_so _ _ (replay_none c.args.words.now c.args.name.now _ c.requires.given named c.in_err-read_replay.ensures.none)
+    none_so _ _ (replay_none c.args.words.now c.args.name.now _ c.requires.given named
+    c.in_err-read_replay.ensures.none)
 
 pub returns-clause-found : goal.returns-clause-found
 returns-clause-found c =
