@@ -562,7 +562,8 @@ fn jobs_meet_in_threads(rt: HostRuntime) -> Result<(), Fail> {
     let mut sized = ThreadSpawner::with_stack_size(&rt, 1 << 20);
     assert_eq!(rt; crew_meets(alloc, &mut sized.twin())?, 2);
     assert_eq!(rt; crew_meets(alloc, &mut sized)?, 2);
-    assert_eq!(rt; spawner.faults() + sized.faults(), 0);
+    assert_eq!(rt; spawner.faults(), 0);
+    assert_eq!(rt; sized.faults(), 0);
     Ok(())
 }
 
