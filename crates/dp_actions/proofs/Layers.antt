@@ -1,8 +1,8 @@
 -- The run of an expression by the runs of its parts, variant by variant.
 use Rattle.std.proofs.Common.{◌≡◌, ℕ, ℤ, Bool, List, map, Option, Some, None, refl, sym, ap, ◌∙◌}
 use Rattle.std.specs.Prelude.{option_map}
-use Rattle.dp_value.specs.declared.operators.BinaryOp.{BinaryOp}
-use Rattle.dp_value.specs.declared.operators.UnaryOp.{UnaryOp}
+use Rattle.dp_tree.specs.declared.operators.BinaryOp.{BinaryOp}
+use Rattle.dp_tree.specs.declared.operators.UnaryOp.{UnaryOp}
 use Rattle.dp_tree.specs.declared.tree.Expression.{Expression, roll-Expression}
 use Rattle.dp_tree.specs.declared.tree.Expression.TheFolds.{fold-roll-Expression, fold_out-Item, fold_out-Link, fold_out-Place}
 use Rattle.dp_tree.specs.declared.tree.Expression.TheOpen.{Expression-F}

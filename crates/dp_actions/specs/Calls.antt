@@ -1,7 +1,7 @@
 -- What a name calls, and what includes a file.
 use Rattle.std.specs.Prelude.{ℕ, false, List, map, Option, Some, None}
 use Rattle.std.specs.Option.{option_map_or}
-use Rattle.dp_value.specs.declared.operators.Builtin.{Builtin}
+use Rattle.dp_tree.specs.declared.operators.Builtin.{Builtin}
 use Rattle.dp_value.specs.declared.value.Value.{Value}
 use Rattle.dp_value.specs.declared.value.Value.TheVariants.{Bool}
 use Rattle.dp_value.specs.Value.{data_of}

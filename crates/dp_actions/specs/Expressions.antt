@@ -10,7 +10,7 @@ use Rattle.dp_value.specs.Value.{data_of}
 use Rattle.dp_operations.specs.Binary.{binary_of}
 use Rattle.dp_operations.specs.Indices.{indexed, looked_up}
 use Rattle.dp_operations.specs.Unary.{unary_of}
-use Rattle.dp_value.specs.declared.operators.UnaryOp.{UnaryOp}
+use Rattle.dp_tree.specs.declared.operators.UnaryOp.{UnaryOp}
 use Rattle.dp_tree.specs.declared.tree.Inclusion.{Inclusion}
 use Rattle.dp_tree.specs.declared.tree.Expression.{Expression, fold-Expression}
 use Rattle.dp_tree.specs.declared.tree.Expression.TheOpen.{Expression-F, Item-F, Link-F, Place-F}

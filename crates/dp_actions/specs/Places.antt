@@ -1,7 +1,7 @@
 -- What is done with places: variables, and entries of them under indices.
 use Rattle.std.specs.Prelude.{ℕ, Bool, true, false, if◌then◌else◌, List, [], ◌∷◌, map, unwrap_or}
-use Rattle.dp_value.specs.declared.operators.BinaryOp.{BinaryOp}
-use Rattle.dp_value.specs.declared.operators.UnaryOp.{UnaryOp}
+use Rattle.dp_tree.specs.declared.operators.BinaryOp.{BinaryOp}
+use Rattle.dp_tree.specs.declared.operators.UnaryOp.{UnaryOp}
 use Rattle.dp_value.specs.declared.value.Value.{Value}
 use Rattle.dp_value.specs.declared.value.Value.TheVariants.{Null, Bool as Truth}
 use Rattle.dp_value.specs.Value.{data_of}

@@ -21,8 +21,8 @@ use crate::signal::Signal;
 use dp_operations::unary;
 use dp_shared::Shared;
 use dp_state::State;
-use dp_tree::Order;
-use dp_value::{BinaryOp, Bytes, Items, UnaryOp, Value, truthy};
+use dp_tree::{BinaryOp, Order, UnaryOp};
+use dp_value::{Bytes, Items, Value, truthy};
 use std::alloc::Global;
 
 /// The value of an operator with one operand.

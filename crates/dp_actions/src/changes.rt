@@ -3,7 +3,7 @@
 #![tactic(auto, using(crate::proofs::AtOnceLaws::acting))]
 
 ghost use Rattle.std.specs.Prelude.{◌≡◌, [], IsTrue};
-ghost use Rattle.dp_value.specs.declared.operators.BinaryOp.TheVariants as operator;
+ghost use Rattle.dp_tree.specs.declared.operators.BinaryOp.TheVariants as operator;
 ghost use Rattle.dp_actions.specs.AtOnce.{AtOnce};
 ghost use Rattle.dp_actions.specs.Places.{combined, step_from as from_old, step_under, step_written, stepped};
 
@@ -14,8 +14,8 @@ use crate::places::{assign_place, read_place};
 use dp_operations::unary;
 use dp_shared::Shared;
 use dp_state::State;
-use dp_tree::Order;
-use dp_value::{BinaryOp, Bytes, UnaryOp, Value};
+use dp_tree::{BinaryOp, Order, UnaryOp};
+use dp_value::{Bytes, Value};
 use std::alloc::Global;
 
 /// Writes what an operator makes of an old value and another one.

@@ -15,7 +15,8 @@ use crate::halt::Halt;
 use dp_operations::{Found, builtin, copy, find, index, under};
 use dp_shared::Shared;
 use dp_state::State;
-use dp_value::{Builtin, Memory, Value, ValueError};
+use dp_tree::Builtin;
+use dp_value::{Memory, Value, ValueError};
 use std::alloc::Global;
 
 /// How entries are read: as values, or as isset finds them.

@@ -1,7 +1,7 @@
 //! Texts that are joined: one that has no other owner grows in its place.
 
 ghost use Rattle.std.specs.Prelude.{◌≡◌, ◌++◌, [], ℕ, List, false, IfOk, MatchOption};
-ghost use Rattle.dp_value.specs.declared.operators.BinaryOp.TheVariants as operator;
+ghost use Rattle.dp_tree.specs.declared.operators.BinaryOp.TheVariants as operator;
 ghost use Rattle.dp_value.specs.declared.value.Value.TheVariants as variant;
 ghost use Rattle.dp_value.specs.Value.{data_of};
 ghost use Rattle.dp_operations.specs.Binary.{binary_of};
@@ -17,7 +17,8 @@ use crate::halt::Halt;
 use dp_operations::{binary, text};
 use dp_shared::Shared;
 use dp_state::{FatalKind, State};
-use dp_value::{BinaryOp, Bytes, Memory, Value};
+use dp_tree::BinaryOp;
+use dp_value::{Bytes, Memory, Value};
 use std::alloc::Global;
 
 /// What an operator makes of two values.

@@ -1,6 +1,6 @@
 -- What the readers of operands answer, where the reader of the level below answers its rules.
 use Rattle.std.proofs.Common.{◌≡◌, inl, inr, ℕ, ◌<◌, ◌≤◌, Bool, true, false, not, ◌&&◌, List, [], ◌∷◌, ◌++◌, Some, None, Ok, refl, arith}
-use Rattle.dp_value.specs.declared.operators.UnaryOp.{UnaryOp}
+use Rattle.dp_tree.specs.declared.operators.UnaryOp.{UnaryOp}
 use Rattle.dp_lexer.specs.declared.token.Token.{Token}
 use Rattle.dp_lexer.specs.declared.token.TokenKind.{TokenKind}
 use Rattle.dp_lexer.specs.declared.token.TokenKind.TheVariants as kind

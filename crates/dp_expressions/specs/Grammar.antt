@@ -1,9 +1,9 @@
 -- The grammar of expressions (PHP manual, "Expressions" and "Operator Precedence"; what is left out
 -- is our own).
 use Rattle.std.specs.Prelude.{ℕ, zero, suc, Bool, true, false, not, ◌||◌, List, [], ◌∷◌, Option, Some, None, ◌++◌}
-use Rattle.dp_value.specs.declared.operators.BinaryOp.TheVariants as binary
-use Rattle.dp_value.specs.declared.operators.UnaryOp.{UnaryOp}
-use Rattle.dp_value.specs.declared.operators.UnaryOp.TheVariants as unary
+use Rattle.dp_tree.specs.declared.operators.BinaryOp.TheVariants as binary
+use Rattle.dp_tree.specs.declared.operators.UnaryOp.{UnaryOp}
+use Rattle.dp_tree.specs.declared.operators.UnaryOp.TheVariants as unary
 use Rattle.dp_expressions.specs.declared.operand.Assignment.{Assignment}
 use Rattle.dp_expressions.specs.declared.operand.Assignment.TheVariants as assignment
 use Rattle.dp_expressions.specs.declared.rank.Rank.{Rank}

@@ -1,7 +1,6 @@
 //! What an expression is read in.
 
-use dp_tree::{Expression, Place};
-use dp_value::BinaryOp;
+use dp_tree::{BinaryOp, Expression, Place};
 
 /// What an expression begins with: a place, a place with `[]` behind it, or an operand that is neither.
 #[derive(Debug, Drop)]

@@ -9,8 +9,7 @@ ghost use Rattle.dp_token_rules.specs.inner.Input.{Reads};
 use crate::operand::Assignment;
 use crate::rank::Rank;
 use dp_token_rules::{Refusal, Terminal, Tokens};
-use dp_tree::{Expression, Inclusion, Operator};
-use dp_value::{BinaryOp, UnaryOp};
+use dp_tree::{BinaryOp, Expression, Inclusion, Operator, UnaryOp};
 
 /// The operator that stands before its operand.
 pub(crate) fn prefix_in(terminal: Terminal) -> Option<UnaryOp>

@@ -1,8 +1,8 @@
 -- What is kept by each step of a program is kept by what is done with places.
 use Rattle.std.proofs.Common.{ℕ, Bool, false, List, [], ◌∷◌, map}
 use Rattle.dp_tree.specs.declared.bundle.Bundle.{Bundle}
-use Rattle.dp_value.specs.declared.operators.BinaryOp.{BinaryOp}
-use Rattle.dp_value.specs.declared.operators.UnaryOp.{UnaryOp}
+use Rattle.dp_tree.specs.declared.operators.BinaryOp.{BinaryOp}
+use Rattle.dp_tree.specs.declared.operators.UnaryOp.{UnaryOp}
 use Rattle.dp_value.specs.declared.value.Value.{Value}
 use Rattle.dp_value.specs.declared.value.Value.TheVariants.{Bool as Truth}
 use Rattle.dp_value.specs.Value.{data_of}

@@ -19,7 +19,7 @@ use Rattle.dp_tree.specs.declared.tree.StatementKind.TheFolds.{fold-roll-Stateme
 use Rattle.dp_tree.specs.declared.tree.StatementKind.TheOpen.{StatementKind-F}
 use Rattle.dp_tree.specs.declared.tree.StatementKind.TheVariants as kind
 use Rattle.dp_tree.specs.Builtins.{builtin_of as builtin_named}
-use Rattle.dp_value.specs.declared.operators.Builtin.{Builtin}
+use Rattle.dp_tree.specs.declared.operators.Builtin.{Builtin}
 use Rattle.dp_actions.specs.Calls.{BuiltIn, Declared, callee, declared_callee}
 use Rattle.dp_actions.specs.Bodies.{statements_of}
 use Rattle.dp_meaning.specs.inner.Sizes.{arm_layer, arm_size, body_size, expression_size, files_size, frame_size, functions_size, kind_layer, kind_size, sizes_sum, statement_layer, statement_size}

@@ -9,8 +9,8 @@ use dp_actions::{
 };
 use dp_shared::Shared;
 use dp_state::State;
-use dp_tree::{Expression, Order, Place};
-use dp_value::{BinaryOp, Bytes, UnaryOp, Value};
+use dp_tree::{BinaryOp, Expression, Order, Place, UnaryOp};
+use dp_value::{Bytes, Value};
 
 impl<O: Outside> Evaluator<'_, O> {
     ghost use Rattle.std.specs.Prelude.{map};

@@ -10,8 +10,8 @@ use dp_actions::{
 };
 use dp_shared::Shared;
 use dp_state::{FatalKind, MomentKind, State};
-use dp_tree::{Expression, Function, Inclusion};
-use dp_value::{Builtin, Bytes, Items, Value};
+use dp_tree::{Builtin, Expression, Function, Inclusion};
+use dp_value::{Bytes, Items, Value};
 
 impl<O: Outside> Evaluator<'_, O> {
     ghost use Rattle.std.specs.Prelude.{◌+◌, ◌<◌, Some};

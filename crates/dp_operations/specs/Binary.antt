@@ -4,8 +4,8 @@ use Rattle.std.specs.Ordering.{is_lt, is_le, is_gt, is_ge}
 use Rattle.std.specs.declared.cmp.Ordering.{Ordering}
 use Rattle.std.specs.declared.cmp.Ordering.TheVariants.{Less as Below, Equal as Level, Greater as Above}
 use Rattle.dp_value.specs.declared.errors.ValueError.{ValueError}
-use Rattle.dp_value.specs.declared.operators.BinaryOp.{BinaryOp}
-use Rattle.dp_value.specs.declared.operators.BinaryOp.TheVariants.{Add, Sub, Mul, Rem, Concat, Equal, NotEqual, Identical, NotIdentical, Less, LessEqual, Greater, GreaterEqual, Spaceship}
+use Rattle.dp_tree.specs.declared.operators.BinaryOp.{BinaryOp}
+use Rattle.dp_tree.specs.declared.operators.BinaryOp.TheVariants.{Add, Sub, Mul, Rem, Concat, Equal, NotEqual, Identical, NotIdentical, Less, LessEqual, Greater, GreaterEqual, Spaceship}
 use Rattle.dp_value.specs.Comparison.{identical}
 use Rattle.dp_value.specs.Data.{Data, boolean, integer}
 use Rattle.dp_operations.specs.Comparisons.{equality, order_of}

@@ -6,8 +6,8 @@ use Rattle.std.specs.Int.RustNames.{unsigned_abs}
 use Rattle.std.specs.Ordering.{int_eq}
 use Rattle.dp_value.specs.declared.errors.CallError.{CallError}
 use Rattle.dp_value.specs.declared.errors.CallError.TheVariants.{Overflow, DivByZero, Unsupported, TooHeavy, Memory, Arguments}
-use Rattle.dp_value.specs.declared.operators.Builtin.{Builtin}
-use Rattle.dp_value.specs.declared.operators.Builtin.TheVariants.{StrLen, Ord, Count, ArrayKeys, ArrayValues, IntDiv, Chr, SubStr, StrRepeat, Implode, IsInt, IsString, IsBool, IsNull, IsArray}
+use Rattle.dp_tree.specs.declared.operators.Builtin.{Builtin}
+use Rattle.dp_tree.specs.declared.operators.Builtin.TheVariants.{StrLen, Ord, Count, ArrayKeys, ArrayValues, IntDiv, Chr, SubStr, StrRepeat, Implode, IsInt, IsString, IsBool, IsNull, IsArray}
 use Rattle.dp_value.specs.declared.value.Value.{Value}
 use Rattle.dp_value.specs.Data.{Data, data_of_key, null, boolean, integer, text, array, pairs_of}
 use Rattle.dp_value.specs.IntText.{is_in_64_bits}

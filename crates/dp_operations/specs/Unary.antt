@@ -3,8 +3,8 @@ use Rattle.std.specs.Prelude.{ℤ, pos, ◌+ℤ◌, ◌-ℤ◌, not, Option, Som
 use lib.IntN.{neg_ℤ}
 use Rattle.dp_value.specs.declared.errors.ValueError.{ValueError}
 use Rattle.dp_value.specs.declared.errors.ValueError.TheVariants.{Unsupported}
-use Rattle.dp_value.specs.declared.operators.UnaryOp.{UnaryOp}
-use Rattle.dp_value.specs.declared.operators.UnaryOp.TheVariants.{Not, Minus, Plus, Increment, Decrement}
+use Rattle.dp_tree.specs.declared.operators.UnaryOp.{UnaryOp}
+use Rattle.dp_tree.specs.declared.operators.UnaryOp.TheVariants.{Not, Minus, Plus, Increment, Decrement}
 use Rattle.dp_value.specs.Data.{Data, null, boolean, integer, text, array}
 use Rattle.dp_value.specs.Truth.{is_true}
 use Rattle.dp_operations.specs.Numbers.{number_of, whole}

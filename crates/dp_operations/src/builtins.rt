@@ -8,7 +8,8 @@ use crate::arrays::{count, key_list, value_list};
 use crate::parts::{joining, part, repetition};
 use crate::scalars::{byte, first_byte, length, quotient};
 use crate::types::{is_array, is_bool, is_int, is_null, is_string};
-use dp_value::{Builtin, CallError, Value};
+use dp_tree::Builtin;
+use dp_value::{CallError, Value};
 use std::alloc::Global;
 
 /// What a built-in function gives of arguments that are lent. `Arguments` comes where the number of arguments is not

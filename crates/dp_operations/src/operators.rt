@@ -12,7 +12,8 @@ ghost use Rattle.dp_operations.specs.Unary.{decremented, incremented, unary_of};
 use crate::arithmetic::{add, multiply, number, remainder, subtract};
 use crate::comparisons::{equal, order};
 use crate::texts::concat;
-use dp_value::{BinaryOp, UnaryOp, Value, ValueError, same, truthy};
+use dp_tree::{BinaryOp, UnaryOp};
+use dp_value::{Value, ValueError, same, truthy};
 use std::alloc::Global;
 use std::cmp::Ordering;
 

@@ -1,6 +1,6 @@
 //! Calls of event lists: the events that a text spells, or its first line that spells none.
 
-use dp_lists::{Act, Event, Events, ListError};
+use dp_events::{Act, Event, Events, ListError};
 use dp_rows::{Memory, put_bytes};
 use std::alloc::Global;
 

@@ -2,7 +2,7 @@
 
 use crate::network::net;
 use crate::objects::{input, shelf, sink, words};
-use dp_links::ListNet;
+use dp_memory_links::ListNet;
 use dp_outside::{ByteSink, ByteSource, MapShelf, NoSpawner};
 use dp_rows::{Differences, Memory, Row};
 use dp_top::top;

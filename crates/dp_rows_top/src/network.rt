@@ -1,9 +1,9 @@
 //! The network in memory that a row describes: one link, if it has one, which a dial gives, or the first gate.
 ghost use Rattle.std.specs.Prelude.{◌≡◌, [], All, IfOk};
-ghost use Rattle.dp_links.specs.Fakes.{IsFresh, IsFreshCall, IsFreshGate};
+ghost use Rattle.dp_memory_links.specs.Fakes.{IsFresh, IsFreshCall, IsFreshGate};
 
 use crate::objects::numbers;
-use dp_links::{GatePart, ListGate, ListNet, NetPart};
+use dp_memory_links::{GatePart, ListGate, ListNet, NetPart};
 use dp_outside::{ByteSink, ByteSource, Host};
 use dp_rows::{Memory, Row};
 use std::alloc::Global;

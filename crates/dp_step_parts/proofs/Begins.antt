@@ -1,8 +1,8 @@
 -- An expression by what is done first and what waits for it.
 use Rattle.std.proofs.Common.{◌≡◌, ℕ, ℤ, Bool, true, false, List, map, Option, refl, ap, ◌∙◌}
 use Rattle.std.specs.Prelude.{if◌then◌else◌, option_map}
-use Rattle.dp_value.specs.declared.operators.BinaryOp.{BinaryOp}
-use Rattle.dp_value.specs.declared.operators.UnaryOp.{UnaryOp}
+use Rattle.dp_tree.specs.declared.operators.BinaryOp.{BinaryOp}
+use Rattle.dp_tree.specs.declared.operators.UnaryOp.{UnaryOp}
 use Rattle.dp_value.specs.declared.value.Value.{Value}
 use Rattle.dp_value.specs.declared.value.Value.TheVariants as value
 use Rattle.dp_tree.specs.declared.tree.Expression.{Expression}

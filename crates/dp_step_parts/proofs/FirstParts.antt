@@ -2,7 +2,7 @@
 use Rattle.std.proofs.Common.{◌≡◌, ℕ, suc, ◌+◌, Bool, true, false, List, [], ◌∷◌, ◌++◌, map, drop, length, get_or, ◌<◌, Some, None, refl, sym, ap, ◌∙◌, append-nil, arith, drop-cons}
 use Rattle.std.specs.Prelude.{if◌then◌else◌, Result}
 use Rattle.dp_value.specs.declared.errors.ValueError.{ValueError}
-use Rattle.dp_value.specs.declared.operators.BinaryOp.{BinaryOp}
+use Rattle.dp_tree.specs.declared.operators.BinaryOp.{BinaryOp}
 use Rattle.dp_value.specs.declared.value.Value.{Value}
 use Rattle.dp_value.specs.declared.value.Value.TheVariants as value
 use Rattle.dp_value.specs.Data.{Data}

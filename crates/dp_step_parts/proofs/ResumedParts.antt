@@ -2,7 +2,7 @@
 use Rattle.std.proofs.Common.{◌≡◌, ℕ, true, false, List, [], ◌∷◌, ◌++◌, Ok, sym, ap, ◌∙◌, append_assoc}
 use Rattle.std.specs.Prelude.{if◌then◌else◌}
 use Rattle.dp_tree.specs.declared.tree.Expression.{Expression}
-use Rattle.dp_value.specs.declared.operators.BinaryOp.{BinaryOp}
+use Rattle.dp_tree.specs.declared.operators.BinaryOp.{BinaryOp}
 use Rattle.dp_value.specs.declared.value.Value.{Value}
 use Rattle.dp_state.specs.declared.state.State.{State}
 use Rattle.dp_actions.specs.AtOnce.{AtOnce}

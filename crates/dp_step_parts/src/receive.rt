@@ -25,8 +25,8 @@ use dp_actions::{
 use dp_operations::unary;
 use dp_shared::{Inside, Shared};
 use dp_state::State;
-use dp_tree::{Boxed, Expression, Item, Link, Order, Place};
-use dp_value::{BinaryOp, Builtin, Bytes, Items, Memory, UnaryOp, Value, truthy};
+use dp_tree::{BinaryOp, Boxed, Builtin, Expression, Item, Link, Order, Place, UnaryOp};
+use dp_value::{Bytes, Items, Memory, Value, truthy};
 use std::alloc::Global;
 
 /// A value is given to a list of parts that waits for one.

@@ -3,8 +3,8 @@
 
 use dp_actions::{Reading, Signal};
 use dp_shared::{Inside, Shared};
-use dp_tree::{Boxed, Expression, Item, Link, Order, Place};
-use dp_value::{BinaryOp, Builtin, Bytes, Items, UnaryOp, Value};
+use dp_tree::{BinaryOp, Boxed, Builtin, Expression, Item, Link, Order, Place, UnaryOp};
+use dp_value::{Bytes, Items, Value};
 
 /// What a finished part gives to the one that waits for it.
 #[derive(Drop)]

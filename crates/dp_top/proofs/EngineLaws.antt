@@ -10,7 +10,7 @@ use Rattle.dp_program.specs.declared.errors.ProgramError.{ProgramError}
 use Rattle.dp_program.specs.Programs.{NamesMake, ProgramCaused}
 use Rattle.dp_top.specs.declared.failures.Failure.TheVariants as failure
 use Rattle.dp_top.specs.declared.failures.Refused.{Refused}
-use Rattle.dp_words.specs.CommandLine.{Address, Invocation}
+use Rattle.dp_words.specs.Words.{Address, Invocation}
 use Rattle.dp_top.specs.Engine.{Engages, EngineFails, IsApart, IsIdle}
 use Rattle.dp_top.specs.Links.{IsDialled, IsUndialled, dial_of}
 use Rattle.dp_top.specs.Runs.{IsProgramReported}

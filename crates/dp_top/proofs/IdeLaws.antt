@@ -26,7 +26,7 @@ use Rattle.dp_top.specs.inner.BadLines.{UnreadSo}
 use Rattle.dp_top.specs.inner.Gated.{Called, DoorSeen, GatedSo, IsReportedBy, MetSo, NoCall, PlayedSo}
 use Rattle.dp_top.proofs.LineLaws.{held_or_lacking, same_content}
 use Rattle.dp_top.proofs.TaskLaws.{one_task, returned_rose}
-use Rattle.dp_words.specs.CommandLine.{IsInvocation, IsIde, Task, ide}
+use Rattle.dp_words.specs.Words.{IsInvocation, IsIde, Task, ide}
 
 -- ---- a gate
 

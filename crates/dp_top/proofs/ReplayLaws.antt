@@ -8,9 +8,9 @@ use Rattle.dp_outside.specs.Reports.{grown}
 use Rattle.dp_bundle.specs.Bundles.{Given, Makes}
 use Rattle.dp_tree.specs.declared.bundle.Bundle.{Bundle}
 use Rattle.dp_bundle.specs.declared.errors.BundleError.{BundleError}
-use Rattle.dp_lists.specs.declared.event.Event.{Event}
-use Rattle.dp_lists.specs.Lists.{IsFirstBad}
-use Rattle.dp_lists.proofs.ListLaws.{bad_excludes}
+use Rattle.dp_events.specs.declared.event.Event.{Event}
+use Rattle.dp_events.specs.Lists.{IsFirstBad}
+use Rattle.dp_events.proofs.ListLaws.{bad_excludes}
 use Rattle.dp_program.specs.declared.errors.ProgramError.{ProgramError}
 use Rattle.dp_program.specs.declared.errors.ProgramError.TheVariants as none
 use Rattle.dp_program.specs.Programs.{AreFetched, Files, IsComplete as IsRunComplete, IsUnmade, IsUnread, NamesMake, ProgramCaused, RequestedNames}
@@ -28,7 +28,7 @@ use Rattle.dp_top.specs.Runs.{AreFetched as OnlyFetched, IsProgramReported}
 use Rattle.dp_top.specs.inner.BadLines.{AreNone, UnreadSo}
 use Rattle.dp_top.specs.inner.EventLists.{EndsOver, EndsReplay, IsWholeList}
 use Rattle.dp_top.proofs.LineLaws.{held_or_lacking, same_content}
-use Rattle.dp_words.specs.CommandLine.{Invocation}
+use Rattle.dp_words.specs.Words.{Invocation}
 
 -- ---- the list
 

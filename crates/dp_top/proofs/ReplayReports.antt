@@ -5,8 +5,8 @@ use Rattle.dp_outside.specs.Changes.{Change}
 use Rattle.dp_bundle.specs.declared.errors.BundleError.{BundleError}
 use Rattle.dp_bundle.specs.declared.errors.BundleError.TheVariants as unmade
 use Rattle.dp_tree.specs.declared.bundle.Bundle.{Bundle}
-use Rattle.dp_lists.specs.declared.event.Event.{Event}
-use Rattle.dp_lists.specs.Lists.{IsFirstBad}
+use Rattle.dp_events.specs.declared.event.Event.{Event}
+use Rattle.dp_events.specs.Lists.{IsFirstBad}
 use Rattle.dp_program.specs.declared.errors.ProgramError.{ProgramError}
 use Rattle.dp_program.specs.declared.errors.ProgramError.TheVariants as none
 use Rattle.dp_program.specs.Programs.{Files, FilesMake, IsComplete as IsRunComplete, ProgramCaused}
@@ -25,7 +25,7 @@ use Rattle.dp_top.proofs.LineLaws.{held_or_lacking}
 use Rattle.dp_top.proofs.ReplayLaws.{held_or_bad}
 use Rattle.dp_top.proofs.RunReports.{bad_source}
 use Rattle.dp_top.proofs.TaskLaws.{no_program, one_task}
-use Rattle.dp_words.specs.CommandLine.{Invocation, IsInvocation, IsReplay, Task, replay}
+use Rattle.dp_words.specs.Words.{Invocation, IsInvocation, IsReplay, Task, replay}
 
 -- a failure of these statuses, or the shelf failed
 abbrev IsListEnd : Failure → ℕ → ℕ → Type 0

@@ -17,7 +17,7 @@ use Rattle.dp_program.specs.declared.errors.RunError.TheVariants as run
 use Rattle.dp_program.specs.Programs.{IsComplete as IsRunComplete, RequestedNames, RequestsFiles, is_bad_file, refusal}
 use Rattle.dp_program.specs.Runs.{of_program}
 use Rattle.dp_top.specs.declared.failures.Refused.{Refused}
-use Rattle.dp_words.specs.CommandLine.{Invocation}
+use Rattle.dp_words.specs.Words.{Invocation}
 use Rattle.dp_top.specs.Runs.{IsFetched, failure_of, program_failure}
 use Rattle.dp_top.specs.inner.Completeness.{IsBadSource, IsComplete, IsGood}
 use Rattle.dp_top.specs.Sources.{failure_of as failure_of_source}

@@ -24,7 +24,7 @@ use Rattle.dp_state.specs.declared.moments.Outcome.TheVariants as way
 use Rattle.dp_top.specs.declared.failures.Failure.{Failure}
 use Rattle.dp_top.specs.declared.failures.Failure.TheVariants as failure
 use Rattle.dp_top.specs.declared.failures.Refused.{Refused}
-use Rattle.dp_words.specs.CommandLine.{AreFileWords, Invocation}
+use Rattle.dp_words.specs.Words.{AreFileWords, Invocation}
 use Rattle.dp_top.specs.Runs.{IsProgramReported, IsRunReported}
 use Rattle.dp_top.specs.inner.Completeness.{IsComplete, IsGood}
 use Rattle.dp_top.specs.Seen.{Seen, changed}

@@ -22,7 +22,7 @@ use Rattle.dp_program.specs.Runs.{RunCaused}
 use Rattle.dp_state.specs.declared.moments.Outcome.{Outcome}
 use Rattle.dp_state.specs.declared.moments.Outcome.TheVariants as way
 use Rattle.dp_top.specs.declared.failures.Refused.{Refused}
-use Rattle.dp_words.specs.CommandLine.{Address, Invocation, IsEngine, IsRun, IsTalk, Task, run, talk, engine, ide, replay, show, IsInvocation, invocation_in, invocation_of, port_of, uses_net}
+use Rattle.dp_words.specs.Words.{Address, Invocation, IsEngine, IsRun, IsTalk, Task, run, talk, engine, ide, replay, show, IsInvocation, invocation_in, invocation_of, port_of, uses_net}
 use Rattle.dp_outside.specs.Links.{CountsReturned}
 use Rattle.dp_top.specs.Engine.{EngineFails, EndsSo as EngineEnds}
 use Rattle.dp_top.specs.Links.{IsDialled}

@@ -8,7 +8,7 @@ use Rattle.dp_program.specs.declared.errors.ProgramError.{ProgramError}
 use Rattle.dp_program.specs.Programs.{NamesMake, ProgramCaused}
 use Rattle.dp_top.specs.declared.failures.Failure.{Failure}
 use Rattle.dp_top.specs.declared.failures.Failure.TheVariants as failure
-use Rattle.dp_words.specs.CommandLine.{Address, Invocation}
+use Rattle.dp_words.specs.Words.{Address, Invocation}
 use Rattle.dp_top.specs.Links.{IsDialled, IsUndialled}
 use Rattle.dp_top.specs.Runs.{IsProgramReported}
 use Rattle.dp_top.specs.Seen.{Seen, changed}

@@ -5,7 +5,7 @@ use Rattle.dp_outside.specs.Causes.{Rose}
 use Rattle.dp_outside.specs.Changes.{Change}
 use Rattle.dp_outside.specs.Links.{CountsReturned, Dial, Door, Link}
 use Rattle.dp_outside.specs.Reports.{grown}
-use Rattle.dp_words.specs.CommandLine.{Address}
+use Rattle.dp_words.specs.Words.{Address}
 use Rattle.dp_top.specs.Seen.{Net}
 
 -- what became of a source or a sink that began with no fault

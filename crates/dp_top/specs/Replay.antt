@@ -3,8 +3,8 @@ use Rattle.std.specs.Prelude.{◌≡◌, ◌⊎◌, ℕ, ◌≤◌, List, [], le
 use Rattle.dp_outside.specs.Changes.{Change, IsUntouched}
 use Rattle.dp_outside.specs.Files.{Fetches}
 use Rattle.dp_tree.specs.declared.bundle.Bundle.{Bundle}
-use Rattle.dp_lists.specs.declared.event.Event.{Event}
-use Rattle.dp_lists.specs.Lists.{IsFirstBad, IsList}
+use Rattle.dp_events.specs.declared.event.Event.{Event}
+use Rattle.dp_events.specs.Lists.{IsFirstBad, IsList}
 use Rattle.dp_program.specs.declared.errors.ProgramError.{ProgramError}
 use Rattle.dp_program.specs.declared.errors.ProgramError.TheVariants as none
 use Rattle.dp_program.specs.Programs.{Files, NamesMake, ProgramCaused}
@@ -13,7 +13,7 @@ use Rattle.dp_world.specs.declared.errors.ReplayError.TheVariants as ends
 use Rattle.dp_world.specs.Replays.{Replays}
 use Rattle.dp_top.specs.declared.failures.Failure.{Failure}
 use Rattle.dp_top.specs.declared.failures.Failure.TheVariants as failure
-use Rattle.dp_words.specs.CommandLine.{Invocation}
+use Rattle.dp_words.specs.Words.{Invocation}
 use Rattle.dp_top.specs.Lines.{IsBadFile, Unread, lines_limit}
 use Rattle.dp_top.specs.Runs.{IsProgramReported}
 

@@ -10,7 +10,7 @@ use Rattle.dp_program.specs.Programs.{Files, RequestedNames}
 use Rattle.dp_program.specs.Runs.{RunCaused}
 use Rattle.dp_top.specs.declared.failures.Failure.{Failure}
 use Rattle.dp_top.specs.declared.failures.Failure.TheVariants.{TooLong, ShelfFailed, NoFile, Fatal, Bound, Output, Memory}
-use Rattle.dp_words.specs.CommandLine.{Invocation}
+use Rattle.dp_words.specs.Words.{Invocation}
 use Rattle.dp_top.specs.Sources.{failure_of as failure_of_source}
 
 -- the name of the file of a number, from 0; nothing where there is none

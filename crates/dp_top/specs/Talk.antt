@@ -14,7 +14,7 @@ use Rattle.dp_conversation.specs.Service.{byte_limit}
 use Rattle.dp_state.specs.declared.moments.Outcome.{Outcome}
 use Rattle.dp_top.specs.declared.failures.Failure.{Failure}
 use Rattle.dp_top.specs.declared.failures.Failure.TheVariants as failure
-use Rattle.dp_words.specs.CommandLine.{Invocation}
+use Rattle.dp_words.specs.Words.{Invocation}
 use Rattle.dp_top.specs.Runs.{IsProgramReported, failure_of, reported_name}
 use Rattle.dp_top.specs.Seen.{Seen, changed}
 

@@ -6,7 +6,7 @@ use Rattle.dp_show.specs.declared.errors.ShowError.TheVariants as ends
 use Rattle.dp_show.specs.Shows.{Shows, Ends}
 use Rattle.dp_top.specs.declared.failures.Failure.{Failure}
 use Rattle.dp_top.specs.declared.failures.Failure.TheVariants.{TooLong, Source, ShelfFailed, NoFile, Fatal, Bound, Output, Script, Differs, PeerEnd, Packet, Network, Stopped, Memory}
-use Rattle.dp_words.specs.CommandLine.{Task, run, talk, engine, ide, replay, show, IsInvocation, invocation_in}
+use Rattle.dp_words.specs.Words.{Task, run, talk, engine, ide, replay, show, IsInvocation, invocation_in}
 use Rattle.dp_top.specs.Engine.{Engages, EngineFails}
 use Rattle.dp_top.specs.Ide.{Plays, IdeFails}
 use Rattle.dp_top.specs.Replay.{DoesReplay, ReplayFails}

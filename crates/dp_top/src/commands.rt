@@ -2,7 +2,7 @@
 ghost use Rattle.std.specs.Prelude.{◌≡◌, ◌≤◌, ℕ, List, [], Ok, Some, IfOk, MatchResult};
 ghost use Rattle.dp_outside.specs.Changes.{change};
 ghost use Rattle.dp_show.specs.Shows.{Shows};
-ghost use Rattle.dp_words.specs.CommandLine.{Invocation, Task, IsInvocation, invocation_in};
+ghost use Rattle.dp_words.specs.Words.{Invocation, Task, IsInvocation, invocation_in};
 ghost use Rattle.dp_words.specs.Commands.{task_of};
 ghost use Rattle.dp_top.specs.inner.Completeness.{AreComplete, AreCompleteWith};
 ghost use Rattle.dp_top.specs.inner.Kept.{Continues, GoesOn};

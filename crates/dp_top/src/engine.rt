@@ -1,7 +1,7 @@
 //! The command `engine`: one session over a link that is dialled.
 ghost use Rattle.std.specs.Prelude.{◌≡◌, ◌≤◌, ℕ, map, Ok, Some, IfOk, MatchResult};
 ghost use Rattle.dp_outside.specs.Changes.{change};
-ghost use Rattle.dp_words.specs.CommandLine.{IsHostWord, IsSession};
+ghost use Rattle.dp_words.specs.Words.{IsHostWord, IsSession};
 ghost use Rattle.dp_words.specs.Commands.{address_seen, invocation_seen};
 ghost use Rattle.dp_tree.specs.declared.bundle.Bundle.{Bundle as Made};
 ghost use Rattle.dp_top.specs.Engine.{Engages, EngineFails};

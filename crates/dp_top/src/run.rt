@@ -5,7 +5,7 @@ ghost use Rattle.dp_tree.specs.declared.bundle.Bundle.{Bundle};
 ghost use Rattle.dp_bundle.specs.declared.errors.BundleError.{BundleError as Unmade};
 ghost use Rattle.dp_program.specs.Programs.{FilesMake};
 ghost use Rattle.dp_program.specs.Runs.{Runs};
-ghost use Rattle.dp_words.specs.CommandLine.{AreFileWords};
+ghost use Rattle.dp_words.specs.Words.{AreFileWords};
 ghost use Rattle.dp_words.specs.Commands.{invocation_seen};
 ghost use Rattle.dp_top.specs.Runs.{IsFetched, IsProgramReported, IsRunReported, failure_of, name_at as name_in};
 ghost use Rattle.dp_top.specs.Runs.{reported_name};

@@ -2,7 +2,7 @@
 ghost use Rattle.std.specs.Prelude.{◌≡◌, ◌<◌, ◌≤◌, ℕ, Ok, map, IfOk, MatchResult};
 ghost use Rattle.dp_outside.specs.Changes.{change};
 ghost use Rattle.dp_tree.specs.declared.bundle.Bundle.{Bundle as Made};
-ghost use Rattle.dp_words.specs.CommandLine.{IsSession};
+ghost use Rattle.dp_words.specs.Words.{IsSession};
 ghost use Rattle.dp_words.specs.Commands.{invocation_seen};
 ghost use Rattle.dp_top.specs.inner.Completeness.{IsComplete, IsGood};
 ghost use Rattle.dp_top.specs.Talk.{ended, judged_by};

@@ -1,6 +1,6 @@
 //! The command `talk`: one session over the program's own input and output.
 ghost use Rattle.std.specs.Prelude.{◌≡◌, ◌≤◌, Some, IfOk, MatchResult};
-ghost use Rattle.dp_words.specs.CommandLine.{IsSession};
+ghost use Rattle.dp_words.specs.Words.{IsSession};
 ghost use Rattle.dp_words.specs.Commands.{invocation_seen};
 ghost use Rattle.dp_top.specs.Runs.{IsFetched};
 ghost use Rattle.dp_top.specs.inner.Completeness.{AreComplete};

@@ -1,8 +1,8 @@
 -- The functions that are there without a declaration, by their names.
 use Rattle.std.specs.Prelude.{ℕ, List, [], ◌∷◌, Option, Some, None, if◌then◌else◌, codes}
 use Rattle.std.specs.Str.{str_eq_ignore_ascii_case}
-use Rattle.dp_value.specs.declared.operators.Builtin.{Builtin}
-use Rattle.dp_value.specs.declared.operators.Builtin.TheVariants as builtin
+use Rattle.dp_tree.specs.declared.operators.Builtin.{Builtin}
+use Rattle.dp_tree.specs.declared.operators.Builtin.TheVariants as builtin
 
 abbrev pub builtins : List (List ℕ × Builtin)
 builtins =

@@ -4,7 +4,7 @@ ghost use Rattle.std.specs.Prelude.{◌≡◌};
 ghost use Rattle.std.specs.Str.{str_eq_ignore_ascii_case};
 ghost use Rattle.dp_tree.specs.Builtins as spec;
 
-use dp_value::Builtin;
+use crate::operators::Builtin;
 
 /// Whether a name is this word, in any case of letters.
 fn is(name: &[u8], word: &[u8]) -> bool

@@ -10,6 +10,7 @@ mod files;
 mod indexed;
 mod lines;
 mod names;
+mod operators;
 mod purity;
 mod tree;
 
@@ -20,6 +21,7 @@ pub use doubles::first_double;
 pub use indexed::Files;
 pub use lines::has_code;
 pub use names::AnyCase;
+pub use operators::{BinaryOp, Builtin, UnaryOp};
 pub use purity::is_pure;
 pub use tree::{
     Arm, Binding, Expression, File, Function, Inclusion, Item, Link, Operator, Order, Place,

@@ -2,7 +2,8 @@
 //! nesting of its text allows.
 
 use crate::boxed::Boxed;
-use dp_value::{BinaryOp, Bytes, Items, UnaryOp};
+use crate::operators::{BinaryOp, UnaryOp};
+use dp_value::{Bytes, Items};
 
 /// A file: its statements and its functions, each in their order, and how many lines it has (one more than its line
 /// feeds).

@@ -10,7 +10,7 @@ use Rattle.std.proofs.lemmas.Str.{IsUtf8-string_bytes}
 use Rattle.dp_value.specs.Names.{without_slash}
 use Rattle.dp_tree.specs.FileNames.{AreFileNames}
 use Rattle.dp_wire.specs.Frames.{has_no_nul}
-use Rattle.dp_words.specs.CommandLine.{AreFileWords, IsFileWord, are_apart}
+use Rattle.dp_words.specs.Words.{AreFileWords, IsFileWord, are_apart}
 use Rattle.dp_words.specs.Plain.{is_plain}
 
 -- a name and others

@@ -11,7 +11,7 @@ use Rattle.clap.specs.Faults.{fault_of}
 use Rattle.clap.specs.Simple.{Shape, subcommand_of}
 use Rattle.clap.specs.Walk.{Row, Text, answers_to}
 use Rattle.dp_outside.specs.Names.{IsKey}
-use Rattle.dp_words.specs.CommandLine.{Invocation, IsInvocation, Task, IsFileWord, run, talk, engine, ide, replay, show, invocation_of, bound_limit, bound_of, default_bound, is_option, not_zero, port_limit, port_of, with_bound}
+use Rattle.dp_words.specs.Words.{Invocation, IsInvocation, Task, IsFileWord, run, talk, engine, ide, replay, show, invocation_of, bound_limit, bound_of, default_bound, is_option, not_zero, port_limit, port_of, with_bound}
 use Rattle.dp_value.specs.Decimals.{decimal_in}
 use Rattle.dp_words.specs.Plain.{are_bounded, are_plain, has_bound, is_plain}
 use Rattle.dp_words.specs.inner.Given.{Given, engine_given, ide_given, replay_given, run_given, show_given, talk_given, are_plain_in, requested, bound_given, bounded, name_in, row, rows_in, words_in}

@@ -1,10 +1,10 @@
 -- What the code's commands ask for, apart from where their words lie in memory.
 use Rattle.std.specs.Prelude.{map, string_bytes}
-use Rattle.dp_words.specs.declared.command_line.Address.{Address as CodeAddress}
-use Rattle.dp_words.specs.declared.command_line.Command.{Command}
-use Rattle.dp_words.specs.declared.command_line.Program.{Program}
-use Rattle.dp_words.specs.declared.command_line.Command.TheVariants as told
-use Rattle.dp_words.specs.CommandLine.{Address, Invocation, Task, run, talk, engine, ide, replay, show}
+use Rattle.dp_words.specs.declared.words.Address.{Address as CodeAddress}
+use Rattle.dp_words.specs.declared.words.Command.{Command}
+use Rattle.dp_words.specs.declared.words.Program.{Program}
+use Rattle.dp_words.specs.declared.words.Command.TheVariants as told
+use Rattle.dp_words.specs.Words.{Address, Invocation, Task, run, talk, engine, ide, replay, show}
 
 -- a program that is asked for
 abbrev pub invocation_seen : Program → Invocation

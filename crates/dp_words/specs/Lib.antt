@@ -1,4 +1,4 @@
-pub mod CommandLine
+pub mod Words
 pub mod Plain
 pub mod Commands
 pub mod inner

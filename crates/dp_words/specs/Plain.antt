@@ -2,7 +2,7 @@
 use Rattle.std.specs.Prelude.{ℕ, Bool, true, false, ◌&&◌, ◌||◌, not, if◌then◌else◌, List, [], ◌∷◌, codes}
 use Rattle.std.specs.List.{list_all}
 use Rattle.std.specs.Str.{bytes_eq}
-use Rattle.dp_words.specs.CommandLine.{is_option}
+use Rattle.dp_words.specs.Words.{is_option}
 
 -- a word that is not empty and asks for no option
 abbrev pub is_plain : List ℕ → Bool

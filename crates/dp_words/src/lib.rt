@@ -1,10 +1,10 @@
 //! The words of a command line, and what they ask for.
 #![tactic(auto)]
 
-mod command_line;
 mod names;
 mod parser;
 mod plain;
+mod words;
 
-pub use command_line::{Address, Command, Engine, Ide, Program, Replay, Talk, read_words};
 pub use dp_value::Memory;
+pub use words::{Address, Command, Engine, Ide, Program, Replay, Talk, read_words};

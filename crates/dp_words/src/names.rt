@@ -5,7 +5,7 @@ ghost use Rattle.std.specs.List.{list_all};
 ghost use Rattle.std.specs.Str.{bytes_eq};
 ghost use Rattle.dp_value.specs.Names.{without_slash as bare};
 ghost use Rattle.dp_wire.specs.Frames.{has_no_nul};
-ghost use Rattle.dp_words.specs.CommandLine.{AreFileWords, IsFileName, IsFileWord, are_apart as all_apart, is_option};
+ghost use Rattle.dp_words.specs.Words.{AreFileWords, IsFileName, IsFileWord, are_apart as all_apart, is_option};
 
 use dp_tree::{FILE_COUNT_LIMIT, FILE_NAME_LIMIT};
 use dp_value::are_alike;

@@ -4,7 +4,7 @@ ghost use Rattle.std.specs.Prelude.{◌≡◌, ◌≢◌, ◌≤◌, ◌-◌, dr
 ghost use Rattle.std.specs.Prelude.{MatchResult, Ok, None, map, option_map, string_bytes};
 ghost use Rattle.clap.specs.Words.{app_of, first_of, found_of, kind_of, rows_of, rule_of, shape_of};
 ghost use Rattle.clap.specs.declared.error.kind.ErrorKind.TheVariants.{OutOfMemory};
-ghost use Rattle.dp_words.specs.CommandLine.{IsInvocation, Task};
+ghost use Rattle.dp_words.specs.Words.{IsInvocation, Task};
 ghost use Rattle.dp_words.specs.Plain as plain;
 ghost use Rattle.dp_words.specs.inner.Rows.{AreRows, count_in};
 ghost use Rattle.dp_words.specs.inner.Shapes as shape;

@@ -20,7 +20,7 @@ use Rattle.dp_world.specs.declared.engine.Engine.{Engine}
 use Rattle.dp_world.specs.declared.shown.Shown.{Shown}
 use Rattle.dp_world.specs.declared.shown.Shown.TheVariants.{Registration, Refused as Turned_away, Session}
 use Rattle.dp_world.specs.inner.KeptLinks.{IsRegistration, IsTo, Has, HasFor, IsReadWith, IsShown, IsShownAt, IsReady, IsReadyAt, Passes, LeadsAs}
-use Rattle.dp_lists.specs.declared.event.Act.TheVariants.{Move}
+use Rattle.dp_events.specs.declared.event.Act.TheVariants.{Move}
 use Rattle.dp_world.specs.Engines.{next_sent}
 use Rattle.dp_world.specs.inner.EngineStates.{IsEngineAfter}
 use Rattle.dp_world.specs.inner.Changes.{IsTaken, IsTakenAt, After, AfterAt, Reads, ReadsAt}

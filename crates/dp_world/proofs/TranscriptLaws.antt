@@ -16,8 +16,8 @@ use Rattle.dp_tree.specs.declared.bundle.Bundle.{Bundle}
 use Rattle.dp_engine.specs.Served.{ending_after, rest_after}
 use Rattle.dp_lanes.specs.declared.lane.LaneKind.TheVariants.{Up, Down}
 use Rattle.dp_registry.specs.declared.pass.Pass.{Pass}
-use Rattle.dp_lists.specs.declared.event.Event.{Event}
-use Rattle.dp_lists.specs.Lists.{hex, makes}
+use Rattle.dp_events.specs.declared.event.Event.{Event}
+use Rattle.dp_events.specs.Lists.{hex, makes}
 use Rattle.dp_proxy.specs.declared.events.Act.{Act as ProxyAct}
 use Rattle.dp_proxy.specs.Links.{stream}
 use Rattle.dp_proxy.specs.Pasts.{Link, New, Asking, Settled, Joined, Ended as Over, Refused, Past}

@@ -10,10 +10,10 @@ use Rattle.std.proofs.lemmas.List.{map-append}
 use Rattle.std.proofs.lemmas.List.Elements.{filter-append}
 use Rattle.indexmap.specs.IndexMap.{insert_entry}
 use Rattle.dp_tree.specs.declared.bundle.Bundle.{Bundle}
-use Rattle.dp_lists.specs.declared.event.Act.{Act}
-use Rattle.dp_lists.specs.declared.event.Act.TheVariants.{Ide, Engine, Give, Move, Close}
-use Rattle.dp_lists.specs.declared.event.Event.{Event}
-use Rattle.dp_lists.specs.Lists.{Fits, MayFollow, AllFit, makes, was}
+use Rattle.dp_events.specs.declared.event.Act.{Act}
+use Rattle.dp_events.specs.declared.event.Act.TheVariants.{Ide, Engine, Give, Move, Close}
+use Rattle.dp_events.specs.declared.event.Event.{Event}
+use Rattle.dp_events.specs.Lists.{Fits, MayFollow, AllFit, makes, was}
 use Rattle.dp_proxy.specs.declared.errors.ProxyError.{ProxyError}
 use Rattle.dp_proxy.specs.declared.errors.ProxyError.TheVariants.{BadInit, BadFrame}
 use Rattle.dp_proxy.specs.declared.events.Act.{Act as ProxyAct}

@@ -8,9 +8,9 @@ use Rattle.dp_proxy.specs.declared.events.Act.TheVariants as proxy
 use Rattle.dp_lanes.specs.declared.lane.LaneKind.TheVariants.{Up, Down}
 use Rattle.dp_proxy.specs.Links.{stream}
 use Rattle.dp_proxy.specs.Pasts.{Link, Joined, Past, start, came, lead, acts_of}
-use Rattle.dp_lists.specs.declared.event.Act.{Act}
-use Rattle.dp_lists.specs.declared.event.Act.TheVariants.{Ide, Engine, Give, Move, Close}
-use Rattle.dp_lists.specs.declared.event.Event.{Event}
+use Rattle.dp_events.specs.declared.event.Act.{Act}
+use Rattle.dp_events.specs.declared.event.Act.TheVariants.{Ide, Engine, Give, Move, Close}
+use Rattle.dp_events.specs.declared.event.Event.{Event}
 
 -- The next bytes of an engine, at most so many: behind those that were read, of what it sends,
 -- served alone, for the bytes that its IDE has given.

@@ -35,10 +35,10 @@ use Rattle.dp_registry.specs.declared.pass.Pass.{Pass}
 use Rattle.dp_registry.specs.Verdicts.{admit_verdict}
 use Rattle.dp_lanes.specs.declared.lane.LaneKind.TheVariants.{Up, Down}
 use Rattle.dp_proxy.specs.Links.{stream}
-use Rattle.dp_lists.specs.declared.event.Act.TheVariants.{Engine}
-use Rattle.dp_lists.specs.declared.event.Event.{Event}
+use Rattle.dp_events.specs.declared.event.Act.TheVariants.{Engine}
+use Rattle.dp_events.specs.declared.event.Event.{Event}
 use Rattle.dp_world.specs.Engines.{past_of, acts_on, alone_on}
-use Rattle.dp_lists.specs.Lists.{AllFit}
+use Rattle.dp_events.specs.Lists.{AllFit}
 use Rattle.dp_world.specs.Transcript.{session_of, shown_of, transcript}
 
 -- in this list an engine connects here with a key, and the registry gives it a session

@@ -7,7 +7,7 @@ use Rattle.dp_outside.specs.Streams.{AppendsFront}
 use Rattle.dp_tree.specs.declared.bundle.Bundle.{Bundle}
 use Rattle.dp_world.specs.declared.errors.ReplayError.{ReplayError}
 use Rattle.dp_world.specs.declared.errors.ReplayError.TheVariants.{OutFault, Memory}
-use Rattle.dp_lists.specs.declared.event.Event.{Event}
+use Rattle.dp_events.specs.declared.event.Event.{Event}
 use Rattle.dp_world.specs.Transcript.{transcript}
 
 -- the transcript was put; or a front of it, where the sink failed or memory ran out

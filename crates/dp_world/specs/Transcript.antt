@@ -15,9 +15,9 @@ use Rattle.dp_lanes.specs.declared.lane.LaneKind.TheVariants.{Up, Down}
 use Rattle.dp_proxy.specs.Links.{stream}
 use Rattle.dp_proxy.specs.Pasts.{Link, New, Asking, Settled, Joined, Ended, Refused}
 use Rattle.dp_proxy.specs.Pasts.{Past}
-use Rattle.dp_lists.specs.declared.event.Event.{Event}
+use Rattle.dp_events.specs.declared.event.Event.{Event}
 use Rattle.dp_world.specs.Engines.{past_of}
-use Rattle.dp_lists.specs.Lists.{hex, makes}
+use Rattle.dp_events.specs.Lists.{hex, makes}
 
 abbrev pub line : List ℕ → List ℕ → List ℕ
 line word part = word ++ codes " " ++ part ++ codes "\n"

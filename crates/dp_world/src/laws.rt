@@ -1,6 +1,6 @@
 //! What holds of every replay.
 ghost use Rattle.std.specs.Prelude.{List, ℕ};
-ghost use Rattle.dp_lists.specs.declared.event.Event.{Event};
+ghost use Rattle.dp_events.specs.declared.event.Event.{Event};
 ghost use Rattle.dp_tree.specs.declared.bundle.Bundle.{Bundle};
 ghost use Rattle.dp_world.specs.Headline.{EachReceives};
 

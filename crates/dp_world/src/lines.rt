@@ -1,6 +1,6 @@
 //! The lines of the transcript.
 ghost use Rattle.std.specs.Prelude.{◌≡◌, ◌<◌, ◌/◌, ◌%◌, ◌++◌, ◌∷◌, [], flat_map, codes, decimal, OnOk};
-ghost use Rattle.dp_lists.specs.Lists.{digit as digit_of, hex};
+ghost use Rattle.dp_events.specs.Lists.{digit as digit_of, hex};
 ghost use Rattle.dp_world.specs.Transcript as spec;
 
 use crate::engine::Ended;

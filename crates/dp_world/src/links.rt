@@ -7,7 +7,7 @@ ghost use Rattle.dp_registry.specs.declared.entry.Entry.{Entry};
 ghost use Rattle.dp_registry.specs.declared.pass.Pass.{Pass};
 ghost use Rattle.dp_registry.specs.declared.refusal.Refusal.{Refusal};
 ghost use Rattle.std.specs.declared.result.Result.{Result as Verdict};
-ghost use Rattle.dp_lists.specs.Lists.{IsFormed, makes as is_made_by};
+ghost use Rattle.dp_events.specs.Lists.{IsFormed, makes as is_made_by};
 ghost use Rattle.dp_proxy.specs.Pasts.{Link, New, lead, admitted, admission};
 ghost use Rattle.dp_world.specs.Engines.{act_of};
 ghost use Rattle.dp_world.specs.inner.Changes.{IsReadableAt, ReadsAt, IsFormedFor, IsTakenAt, AfterAt, IsAppended};
@@ -17,7 +17,7 @@ ghost use Rattle.dp_world.specs.inner.KeptLinks.{IsShownAt, IsReadyAt, Passes, L
 use crate::engine::Engine;
 use crate::shown::Shown;
 use dp_engine::Steps;
-use dp_lists::{Act, Event};
+use dp_events::{Act, Event};
 use dp_proxy::{Act as ProxyAct, Effect};
 use dp_tree::Bundle;
 use dp_value::{Bytes, Memory};

@@ -15,7 +15,7 @@ use crate::lines::{admission, refusal, registration, service};
 use crate::shown::Shown;
 use crate::world::follow;
 use dp_engine::Steps;
-use dp_lists::Events;
+use dp_events::Events;
 use dp_outside::Sink;
 use dp_tree::Bundle;
 use dp_value::Memory;

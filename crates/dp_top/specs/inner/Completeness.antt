@@ -7,8 +7,8 @@ use Rattle.dp_top.specs.declared.failures.Failure.{Failure}
 use Rattle.dp_top.specs.declared.failures.Failure.TheVariants.{NoFile, Memory}
 use Rattle.dp_top.specs.declared.failures.Refused.{Refused}
 use Rattle.dp_program.specs.Programs.{FilesMake}
-use Rattle.dp_words.specs.CommandLine.{Invocation}
-use Rattle.dp_lists.specs.declared.event.Event.{Event}
+use Rattle.dp_words.specs.Words.{Invocation}
+use Rattle.dp_events.specs.declared.event.Event.{Event}
 use Rattle.dp_top.specs.Failures.{status_of}
 use Rattle.dp_top.specs.Replay.{IsListFile}
 use Rattle.dp_top.specs.Seen.{Seen}

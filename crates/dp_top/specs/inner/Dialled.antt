@@ -6,7 +6,7 @@ use Rattle.dp_engine.specs.declared.service.Served.{Served}
 use Rattle.dp_engine.specs.Service.{Serves}
 use Rattle.dp_top.specs.declared.failures.Failure.{Failure}
 use Rattle.dp_top.specs.declared.failures.Failure.TheVariants as failure
-use Rattle.dp_words.specs.CommandLine.{Address, Invocation}
+use Rattle.dp_words.specs.Words.{Address, Invocation}
 use Rattle.dp_top.specs.Engine.{judged}
 use Rattle.dp_top.specs.Links.{IsDialled, IsUndialled}
 use Rattle.dp_top.specs.Seen.{Net}

@@ -3,8 +3,8 @@ use Rattle.std.specs.Prelude.{◌≡◌, ◌⊎◌, ℕ, ◌≤◌, List, [], le
 use Rattle.dp_outside.specs.Changes.{Change}
 use Rattle.dp_outside.specs.Files.{Fetches}
 use Rattle.dp_bundle.specs.Bundles.{Given}
-use Rattle.dp_lists.specs.declared.event.Event.{Event}
-use Rattle.dp_lists.specs.Lists.{IsList}
+use Rattle.dp_events.specs.declared.event.Event.{Event}
+use Rattle.dp_events.specs.Lists.{IsList}
 use Rattle.dp_bundle.specs.declared.errors.BundleError.{BundleError}
 use Rattle.dp_program.specs.Programs.{AreFetched, Files, FilesMake}
 use Rattle.dp_tree.specs.declared.bundle.Bundle.{Bundle}
@@ -15,7 +15,7 @@ use Rattle.dp_top.specs.declared.failures.Refused.{Refused}
 use Rattle.dp_top.specs.Replay.{DoesReplay, IsListFile, ReplayFails}
 use Rattle.dp_top.specs.Lines.{lines_limit}
 use Rattle.dp_top.specs.inner.Completeness.{IsComplete}
-use Rattle.dp_words.specs.CommandLine.{Invocation}
+use Rattle.dp_words.specs.Words.{Invocation}
 
 -- the bytes are a list of events, and not too many
 pub record IsWholeList (bytes : List ℕ) (events : List Event) : Type 0 where

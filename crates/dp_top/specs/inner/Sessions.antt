@@ -7,7 +7,7 @@ use Rattle.dp_engine.specs.Service.{Serves}
 use Rattle.dp_top.specs.declared.failures.Failure.{Failure}
 use Rattle.dp_top.specs.declared.failures.Failure.TheVariants as failure
 use Rattle.dp_top.specs.declared.failures.Refused.{Refused}
-use Rattle.dp_words.specs.CommandLine.{Invocation}
+use Rattle.dp_words.specs.Words.{Invocation}
 use Rattle.dp_top.specs.Talk.{EndReport, IsIdle, judged_by}
 
 -- what the code tells

@@ -4,7 +4,7 @@ use Rattle.std.specs.List.{list_all}
 use Rattle.clap.specs.Walk.{Row, Text}
 use Rattle.clap.specs.declared.builder.value_parser.Reading.TheVariants.{AsWritten}
 use Rattle.clap.specs.declared.parser.matches.ValueSource.TheVariants.{CommandLine}
-use Rattle.dp_words.specs.CommandLine.{Invocation, bound_of, default_bound}
+use Rattle.dp_words.specs.Words.{Invocation, bound_of, default_bound}
 use Rattle.dp_words.specs.Plain.{is_plain}
 use Rattle.dp_words.specs.inner.Shapes.{engine_words, ide_words, replay_words, talk_words}
 

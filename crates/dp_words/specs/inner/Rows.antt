@@ -5,7 +5,7 @@ use Rattle.std.specs.declared.alloc.Global.{Global}
 use Rattle.clap.specs.Simple.{subcommand_rows_of}
 use Rattle.clap.specs.Walk.{Row, Text, all_of, first_of}
 use Rattle.clap.specs.declared.parser.matches.ArgMatches.{ArgMatches}
-use Rattle.dp_words.specs.CommandLine.{Invocation}
+use Rattle.dp_words.specs.Words.{Invocation}
 use Rattle.dp_words.specs.inner.Given.{Given, are_plain_in, bound_given, name_in, rows_in, words_in}
 
 -- how many files there are

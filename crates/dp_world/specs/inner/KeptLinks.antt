@@ -13,9 +13,9 @@ use Rattle.dp_proxy.specs.Links.{stream}
 use Rattle.dp_proxy.specs.Pasts.{Link, New, Asking, Settled, Joined, Ended, Refused, Past, lead}
 use Rattle.dp_proxy.specs.Pasts as core
 use Rattle.dp_proxy.specs.Invariant.{Keeps, Represents}
-use Rattle.dp_lists.specs.declared.event.Act.{Act}
-use Rattle.dp_lists.specs.declared.event.Event.{Event}
-use Rattle.dp_lists.specs.Lists.{Fits, makes}
+use Rattle.dp_events.specs.declared.event.Act.{Act}
+use Rattle.dp_events.specs.declared.event.Event.{Event}
+use Rattle.dp_events.specs.Lists.{Fits, makes}
 use Rattle.dp_world.specs.declared.engine.Engine.{Engine}
 use Rattle.dp_world.specs.declared.shown.Shown.{Shown}
 use Rattle.dp_world.specs.declared.shown.Shown.TheVariants as shown

@@ -3,7 +3,7 @@ use Rattle.dp_program.proofs.RunLaws.{complete_fetched}
 use Rattle.dp_tree.specs.declared.bundle.Bundle.{Bundle}
 use Rattle.dp_top.proofs.RunReports.{complete_failure}
 use Rattle.dp_outside.specs.Changes.{change}
-use Rattle.dp_lists.specs.Lists.{IsFirstBad}
+use Rattle.dp_events.specs.Lists.{IsFirstBad}
 use Rattle.dp_words.specs.Commands.{invocation_seen}
 use Rattle.dp_top.proofs.LineLaws.{bad_bytes}
 use Rattle.dp_top.proofs.ReplayLaws.{bad_held, held_list, over_complete, over_ends, unlisted_fails, unmade_fails}

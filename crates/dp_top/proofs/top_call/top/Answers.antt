@@ -3,7 +3,7 @@ use Rattle.dp_top.proofs.TaskLaws.{asks_fetched, fails_told, told_above, complet
 use Rattle.dp_top.proofs.IdeLaws.{complete_ide_told, plays_well, script_held_told, script_refused_done, script_refused_told}
 use Rattle.dp_top.proofs.ReplayReports.{asks_replay, complete_replay_told, list_held_told, list_refused_done}
 use Rattle.dp_top.proofs.ReplayReports.{list_refused_told, replays_well}
-use Rattle.dp_words.specs.CommandLine.{run, talk, engine, ide, replay, show, IsInvocation}
+use Rattle.dp_words.specs.Words.{run, talk, engine, ide, replay, show, IsInvocation}
 use Rattle.dp_words.specs.Commands.{task_of}
 use Rattle.dp_top.proofs.top_call.top.Goals as goal
 

@@ -1,5 +1,5 @@
 use Rattle.std.proofs.Common.{◌≡◌, ◌/◌, ◌%◌, ◌++◌, ◌∷◌, [], take, flat_map}
-use Rattle.dp_lists.specs.Lists.{digit as digit_of}
+use Rattle.dp_events.specs.Lists.{digit as digit_of}
 use Rattle.dp_world.proofs.lines.put_digits.Given as goal
 
 abbrev pub invariant-loop-byte : goal.invariant-loop-byte

@@ -1,5 +1,5 @@
 use Rattle.std.proofs.Common.{sym, subst}
-use Rattle.dp_lists.specs.declared.event.Act.{Act}
+use Rattle.dp_events.specs.declared.event.Act.{Act}
 use Rattle.dp_proxy.specs.declared.events.Act.TheVariants.{Moved}
 use Rattle.dp_world.specs.inner.KeptLinks.{IsReadyAt, LeadsAs, kept_at}
 use Rattle.dp_world.proofs.ChangeLaws.{moved_ready}

@@ -1,6 +1,6 @@
 use Rattle.std.proofs.Common.{◌≡◌, true, is_some, IfOk, refl, sym, ap, subst, ◌∙◌}
 use Rattle.std.proofs.lemmas.Option.{same_Some}
-use Rattle.dp_lists.specs.declared.event.Act.{Act}
+use Rattle.dp_events.specs.declared.event.Act.{Act}
 use Rattle.dp_registry.specs.Verdicts.{admit_verdict}
 use Rattle.dp_proxy.specs.Pasts.{New, Lead, lead, admission}
 use Rattle.dp_proxy.proofs.ActLaws.{ide_comes, engine_comes}

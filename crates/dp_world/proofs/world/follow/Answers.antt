@@ -1,6 +1,6 @@
 use Rattle.std.proofs.Common.{◌<◌, List, [], take, length, sym, subst, arith}
 use Rattle.std.proofs.lemmas.List.{take_all}
-use Rattle.dp_lists.specs.declared.event.Event.{Event}
+use Rattle.dp_events.specs.declared.event.Event.{Event}
 use Rattle.dp_world.specs.Engines.{past_of}
 use Rattle.dp_world.specs.inner.KeptLinks.{IsShownAt, IsWorldAfter, kept_at}
 use Rattle.dp_world.proofs.WorldLaws.{fit_item, take_item}

@@ -1,6 +1,6 @@
 use Rattle.std.proofs.Common.{List, ℕ, ap, subst, ◌∙◌}
 use Rattle.dp_outside.specs.Changes.{change}
-use Rattle.dp_lists.specs.declared.event.Event.{Event}
+use Rattle.dp_events.specs.declared.event.Event.{Event}
 use Rattle.dp_world.specs.Engines.{past_of}
 use Rattle.dp_world.specs.Transcript.{shown_of}
 use Rattle.dp_world.specs.inner.LinkLines.{Writes}

@@ -1,9 +1,0 @@
-use Rattle.dp_links.specs.Fakes.{IsFreshPart}
-use Rattle.dp_links.proofs.Fresh.{begins_all}
-use Rattle.dp_links.proofs.net.next_part.Goals as goal
-
-pub returns-in-Some-clause-fresh : goal.returns-in-Some-clause-fresh
-returns-in-Some-clause-fresh c = (begins_all IsFreshPart _ _ _ c.in-Some.ensures.items c.requires).0
-
-pub returns-in-Some-clause-fresh_later : goal.returns-in-Some-clause-fresh_later
-returns-in-Some-clause-fresh_later c = (begins_all IsFreshPart _ _ _ c.in-Some.ensures.items c.requires).1
