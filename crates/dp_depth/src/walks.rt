@@ -19,6 +19,7 @@ pub fn statement_is_deep<'p>(deep: &DeepNames<'p>, statement: &'p Statement) -> 
     kind_is_deep(deep, &statement.kind)
 }
 
+/// Whether a statement of this kind may come to a deep call.
 #[cycle(statements)]
 fn kind_is_deep<'p>(deep: &DeepNames<'p>, kind: &'p StatementKind) -> bool
     ensures { result ≡ parts.kind_is_deep (is_named deep.now) kind.now }
@@ -75,6 +76,7 @@ pub(crate) fn body_is_deep<'p>(deep: &DeepNames<'p>, all: &'p [Statement]) -> bo
     false
 }
 
+/// Whether the test or the body of one of these arms is deep.
 #[cycle(statements)]
 fn arms_are_deep<'p>(deep: &DeepNames<'p>, all: &'p [Arm]) -> bool
     ensures { result ≡ list_any (parts.arm_is_deep (is_named deep.now)) all.now }
@@ -87,6 +89,7 @@ fn arms_are_deep<'p>(deep: &DeepNames<'p>, all: &'p [Arm]) -> bool
     false
 }
 
+/// Whether there is an `else`, and it is deep.
 #[cycle(statements)]
 fn otherwise_is_deep<'p>(deep: &DeepNames<'p>, otherwise: &'p Option<Boxed<Statement>>) -> bool
     ensures { result ≡ option_map_or (depth.statement_is_deep (is_named deep.now)) otherwise.now false }
@@ -97,6 +100,7 @@ fn otherwise_is_deep<'p>(deep: &DeepNames<'p>, otherwise: &'p Option<Boxed<State
     }
 }
 
+/// Whether there is an expression, and it is deep.
 fn is_deep_if_any<'p>(deep: &DeepNames<'p>, e: &'p Option<Expression>) -> bool
     ensures { result ≡ option_map_or (depth.is_deep (is_named deep.now)) e.now false }
 {
@@ -155,6 +159,7 @@ pub fn any_deep<'p>(deep: &DeepNames<'p>, all: &'p [Expression]) -> bool
     false
 }
 
+/// Whether there is a middle of a conditional, and it is deep.
 #[cycle(expressions)]
 fn middle_is_deep<'p>(deep: &DeepNames<'p>, middle: &'p Option<Boxed<Expression>>) -> bool
     ensures { result ≡ option_map_or (depth.is_deep (is_named deep.now)) middle.now false }
@@ -165,6 +170,7 @@ fn middle_is_deep<'p>(deep: &DeepNames<'p>, middle: &'p Option<Boxed<Expression>
     }
 }
 
+/// Whether one of these items is deep.
 #[cycle(expressions)]
 fn items_are_deep<'p>(deep: &DeepNames<'p>, all: &'p [Item]) -> bool
     ensures { result ≡ list_any (parts.item_is_deep (is_named deep.now)) all.now }
@@ -177,6 +183,7 @@ fn items_are_deep<'p>(deep: &DeepNames<'p>, all: &'p [Item]) -> bool
     false
 }
 
+/// Whether the key or the value of an item is deep.
 #[cycle(expressions)]
 fn item_is_deep<'p>(deep: &DeepNames<'p>, item: &'p Item) -> bool
     ensures { result ≡ parts.item_is_deep (is_named deep.now) item.now }
@@ -187,6 +194,7 @@ fn item_is_deep<'p>(deep: &DeepNames<'p>, item: &'p Item) -> bool
     }
 }
 
+/// Whether one of these places is deep.
 #[cycle(expressions)]
 fn places_are_deep<'p>(deep: &DeepNames<'p>, all: &'p [Place]) -> bool
     ensures { result ≡ list_any (depth.place_is_deep (is_named deep.now)) all.now }
@@ -199,6 +207,7 @@ fn places_are_deep<'p>(deep: &DeepNames<'p>, all: &'p [Place]) -> bool
     false
 }
 
+/// Whether an index of a place is deep.
 #[cycle(expressions)]
 fn place_is_deep<'p>(deep: &DeepNames<'p>, place: &'p Place) -> bool
     ensures { result ≡ depth.place_is_deep (is_named deep.now) place.now }
@@ -206,6 +215,7 @@ fn place_is_deep<'p>(deep: &DeepNames<'p>, place: &'p Place) -> bool
     any_deep(deep, place.indices.as_slice())
 }
 
+/// Whether the operand of one of these links is deep.
 #[cycle(expressions)]
 fn links_are_deep<'p>(deep: &DeepNames<'p>, all: &'p [Link]) -> bool
     ensures { result ≡ list_any (parts.link_is_deep (is_named deep.now)) all.now }

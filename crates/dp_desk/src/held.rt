@@ -222,6 +222,7 @@ impl<A: Ledger, B: Ledger, C: Ledger> Held<A, B, C> {
 }
 
 impl<A: Ledger, B: Ledger, C: Ledger> Shares<A, B, C> {
+    /// How many parts of each ledger are held.
     pub(crate) fn share(&self) -> u64
         ensures { result ≡ self.now.share }
     {
@@ -243,6 +244,7 @@ impl<A: Ledger, B: Ledger, C: Ledger> Shares<A, B, C> {
         }
     }
 
+    /// Gives the parts back to those of another, with what was made.
     pub(crate) fn give_back(self, to: &mut Shares<A, B, C>)
         ensures { (to.new.made ≡ plus to.old.made self.made) × (to.new.share ≡ to.old.share + self.share) }
     {

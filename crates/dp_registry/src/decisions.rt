@@ -14,6 +14,7 @@ impl Registry {
     ghost use Rattle.dp_registry.specs.Verdicts.{is_full, is_crowded, register_verdict, stop_verdict, admit_verdict};
     ghost use Rattle.dp_registry.specs.Verdicts.{reply_of, admit_reply_of, noted, IsAnswer};
 
+    /// Registers a host and a port under a key, or refuses a key that is taken; either is an entry.
     #[tactic(auto, using(crate::proofs::FitEntries::registers, crate::proofs::FitEntries::register_free))]
     pub(crate) fn register_owned(
         &mut self,
@@ -50,6 +51,7 @@ impl Registry {
         }
     }
 
+    /// Ends a key's registration for the host that holds it, or refuses; either is an entry.
     #[tactic(auto, using(crate::proofs::FitEntries::stops, crate::proofs::FitEntries::stop_free))]
     pub(crate) fn stop_owned(&mut self, host: Bytes, key: Bytes) -> Result<(), Refusal>
         requires host { IsHost host }
@@ -82,6 +84,7 @@ impl Registry {
         }
     }
 
+    /// Gives a session to the holder of a key, or refuses; either is an entry.
     #[tactic(auto, using(crate::proofs::FitEntries::admits, crate::proofs::FitEntries::admit_free, crate::proofs::FitEntries::not_full))]
     pub(crate) fn admit_owned(&mut self, key: Bytes) -> Result<Pass, Refusal>
         requires key { IsKey key }

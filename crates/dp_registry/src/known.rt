@@ -19,16 +19,20 @@ impl Registry {
     ghost use Rattle.dp_registry.specs.Verdicts.{is_full, is_crowded, full, registering, stopping, admitting};
     ghost use Rattle.dp_registry.specs.inner.Answered.{holder_from, registered, stopped, admitted};
 
+    /// The allocator of the journal.
     pub(crate) fn allocator(&self) -> Global {
         *self.journal.allocator()
     }
 
+    /// Whether the journal, with an entry for each dismissal to come, has no room for one entry more.
     pub(crate) fn is_full(&self) -> bool
         ensures { result ≡ is_full self.now }
     {
         self.journal.len() + self.living + 1 > MOST_ENTRIES
     }
 
+    /// Whether no session can be given: as many are live as may be, or the journal has no room for one and its
+    /// dismissal.
     pub(crate) fn is_crowded(&self) -> bool
         ensures test { result ≡ is_crowded self.now }
         ensures legal { IsLegal self.now }
@@ -36,6 +40,7 @@ impl Registry {
         self.journal.len() + self.living + 2 > MOST_ENTRIES || self.living == MOST_LIVE
     }
 
+    /// The refusal of a full registry, with how many entries and live sessions it has.
     pub(crate) fn full(&self) -> Refusal
         ensures { result ≡ full self.now }
     {
@@ -112,6 +117,7 @@ impl Registry {
         })
     }
 
+    /// The number of the session that is given next.
     pub(crate) fn next_session(&self) -> u64
         ensures { result ≡ next_session self.now }
     {

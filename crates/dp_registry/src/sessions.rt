@@ -24,6 +24,7 @@ impl Model for Sessions {
 }
 
 impl Sessions {
+    /// One session alone.
     fn of(alloc: Global, session: u64) -> Result<Sessions, Memory>
         ensures { IfOk result (λ sessions. sessions ≡ session ∷ []) }
     {
@@ -32,18 +33,21 @@ impl Sessions {
         Ok(Sessions { numbers })
     }
 
+    /// The session that was given first, if any.
     fn first(&self) -> Option<u64>
         ensures { result ≡ slice_get self.now 0 }
     {
         self.numbers.get(0).copied()
     }
 
+    /// Whether there is no session.
     fn is_empty(&self) -> bool
         ensures { result ≡ (length self.now == 0) }
     {
         self.numbers.is_empty()
     }
 
+    /// Adds a session as the last; unchanged where memory runs out.
     fn add(&mut self, session: u64) -> Result<(), Memory>
         ensures ok { OnOk result (self.new ≡ self.old ++ session ∷ []) }
         ensures err { OnErr result (self.new ≡ self.old) }
@@ -52,6 +56,7 @@ impl Sessions {
         Ok(())
     }
 
+    /// Takes a session out, if it is there.
     fn remove(&mut self, session: u64)
         ensures { self.new ≡ filter (λ s. not (session == s)) self.old }
     {

@@ -20,6 +20,7 @@ fn is_taken(names: &IndexSet<Bytes>, name: &[u8], lower: &Bytes) -> bool
     builtin_of(name).is_some() || names.contains(lower)
 }
 
+/// Puts a name behind the others, which do not have it.
 fn keep(names: &mut IndexSet<Bytes>, lower: Bytes) -> Result<(), Memory>
     requires { list_any (bytes_eq lower) names.old.keys ≡ false }
     ensures { OnOk result (names.new.keys ≡ names.old.keys ++ lower ∷ []) }

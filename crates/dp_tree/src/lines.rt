@@ -22,6 +22,7 @@ pub fn has_code(file: &File, line: u32) -> bool
     functions_have(file.functions.as_slice(), line)
 }
 
+/// Whether the line is in one of these functions.
 #[tactic(auto, using(crate::proofs::TreeLines::has_both))]
 fn functions_have(functions: &[Function], line: u32) -> bool
     ensures { result ≡ lines.has_line (flat_map (λ (f : Function). lines.body_lines f.body) functions.now) line }
@@ -34,6 +35,7 @@ fn functions_have(functions: &[Function], line: u32) -> bool
     false
 }
 
+/// Whether the line is that of one of these statements, or of one inside them.
 #[cycle(lines)]
 #[tactic(auto, using(crate::proofs::TreeLines::has_both))]
 fn body_has(all: &[Statement], line: u32) -> bool
@@ -47,6 +49,7 @@ fn body_has(all: &[Statement], line: u32) -> bool
     false
 }
 
+/// Whether the line is that of a statement, or of one inside it.
 #[cycle(lines)]
 fn statement_has(statement: &Statement, line: u32) -> bool
     ensures { result ≡ lines.has_line (lines.lines_of statement.now) line }
@@ -54,6 +57,7 @@ fn statement_has(statement: &Statement, line: u32) -> bool
     kind_has(&statement.kind, statement.line, line)
 }
 
+/// Whether the line is that of a statement of this kind that begins on `first`, or of one inside it.
 #[cycle(lines)]
 #[tactic(auto, using(crate::proofs::TreeLines::has_both, crate::proofs::TreeLines::block_lines, crate::proofs::TreeLines::if_lines, crate::proofs::TreeLines::do_lines))]
 fn kind_has(kind: &StatementKind, first: u32, line: u32) -> bool
@@ -94,6 +98,7 @@ fn kind_has(kind: &StatementKind, first: u32, line: u32) -> bool
     }
 }
 
+/// Whether there is an `else`, and the line is in it.
 #[cycle(lines)]
 fn otherwise_has(otherwise: &Option<Boxed<Statement>>, line: u32) -> bool
     ensures { result ≡ lines.has_line (option_map_or lines.lines_of otherwise.now []) line }
@@ -104,6 +109,7 @@ fn otherwise_has(otherwise: &Option<Boxed<Statement>>, line: u32) -> bool
     }
 }
 
+/// Whether the line is that of the test of one of these arms, or is in its body.
 #[cycle(lines)]
 #[tactic(auto, using(crate::proofs::TreeLines::has_both))]
 fn arms_have(arms: &[Arm], line: u32) -> bool

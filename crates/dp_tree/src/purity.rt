@@ -41,6 +41,7 @@ pub fn is_pure(e: &Expression) -> bool
     }
 }
 
+/// Whether there is no expression, or a pure one.
 #[cycle(purity)]
 fn is_pure_if_any(e: &Option<Boxed<Expression>>) -> bool
     ensures { result ≡ option_map_or purity.is_pure e.now true }
@@ -51,6 +52,7 @@ fn is_pure_if_any(e: &Option<Boxed<Expression>>) -> bool
     }
 }
 
+/// Whether each of these expressions is pure.
 #[cycle(purity)]
 fn all_pure(all: &[Expression]) -> bool
     ensures { result ≡ list_all purity.is_pure all.now }
@@ -63,6 +65,7 @@ fn all_pure(all: &[Expression]) -> bool
     true
 }
 
+/// Whether each of these items is pure.
 #[cycle(purity)]
 fn items_are_pure(all: &[Item]) -> bool
     ensures { result ≡ list_all parts.item_is_pure all.now }
@@ -75,6 +78,7 @@ fn items_are_pure(all: &[Item]) -> bool
     true
 }
 
+/// Whether the key and the value of an item are pure.
 #[cycle(purity)]
 fn item_is_pure(item: &Item) -> bool
     ensures { result ≡ parts.item_is_pure item.now }
@@ -85,6 +89,7 @@ fn item_is_pure(item: &Item) -> bool
     }
 }
 
+/// Whether the indices of each of these places are pure.
 #[cycle(purity)]
 fn places_are_pure(all: &[Place]) -> bool
     ensures { result ≡ list_all parts.place_is_pure all.now }
@@ -97,6 +102,7 @@ fn places_are_pure(all: &[Place]) -> bool
     true
 }
 
+/// Whether each index of a place is pure.
 #[cycle(purity)]
 #[tactic(auto, using(crate::proofs::TreePurity::place_pure))]
 fn place_is_pure(place: &Place) -> bool
@@ -105,6 +111,7 @@ fn place_is_pure(place: &Place) -> bool
     all_pure(place.indices.as_slice())
 }
 
+/// Whether the operand of each of these links is pure.
 #[cycle(purity)]
 fn links_are_pure(all: &[Link]) -> bool
     ensures { result ≡ list_all parts.link_is_pure all.now }

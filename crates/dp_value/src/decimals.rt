@@ -20,6 +20,7 @@ pub fn decimal(text: &[u8], most: u64) -> Option<u64>
     if number <= most { Some(number) } else { None }
 }
 
+/// Whether a text is `0`, or digits that begin with another one.
 fn is_decimal(text: &[u8]) -> bool
     ensures { result ≡ spelt_decimal text.now }
 {

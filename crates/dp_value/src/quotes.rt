@@ -17,6 +17,7 @@ pub fn put_in_quotes(out: &mut Vec<u8>, bytes: &[u8]) -> Result<(), Memory>
     Ok(())
 }
 
+/// Puts one byte as it is written between quotes.
 fn put_byte(out: &mut Vec<u8>, b: u8) -> Result<(), Memory>
     ensures { OnOk result (out.new.items ≡ out.old.items ++ in_quotes b) }
 {
