@@ -20,6 +20,7 @@ fn state_name(enabled: bool) -> &'static [u8]
     if enabled { b"enabled" } else { b"disabled" }
 }
 
+/// An attribute of this name and value, both copied.
 fn pair(alloc: Global, name: &[u8], value: &[u8]) -> Result<(Bytes, Bytes), Memory>
     ensures { IfOk result (λ pair. pair ≡ (name.now, value.now)) }
 {
@@ -28,6 +29,7 @@ fn pair(alloc: Global, name: &[u8], value: &[u8]) -> Result<(Bytes, Bytes), Memo
     Ok((name, value))
 }
 
+/// An attribute of this name, whose value is the number in decimal.
 fn number_pair(alloc: Global, name: &[u8], number: u32) -> Result<(Bytes, Bytes), Memory>
     ensures { IfOk result (λ pair. pair ≡ (name.now, decimal number)) }
 {
@@ -35,6 +37,7 @@ fn number_pair(alloc: Global, name: &[u8], number: u32) -> Result<(Bytes, Bytes)
     pair(alloc, name, buffer.format(number).as_bytes())
 }
 
+/// The response to a command, under its name and id, with these attributes and this body.
 fn response(
     alloc: Global,
     to: &Addressee,

@@ -5,6 +5,7 @@ use std::marker::Brand;
 use std::sync::ledger::Blank;
 use std::test::*;
 
+/// Two clerks serve in two threads and meet: a stop then succeeds, and the journal has 7 entries.
 #[test]
 fn two_threads(rt: HostRuntime) -> Result<(), Fail> {
     let answer = served_by_two::<_, Brand, Brand, Brand>(

@@ -11,6 +11,7 @@ use dp_packet::{Body, ErrorCode, Packet, Response, text_of};
 use dp_value::{Bytes, Items, Memory};
 use std::alloc::Global;
 
+/// An attribute of this name and value, both copied.
 fn pair(alloc: Global, name: &[u8], value: &[u8]) -> Result<(Bytes, Bytes), Memory>
     ensures { IfOk result (λ pair. pair ≡ (name.now, value.now)) }
 {
@@ -34,6 +35,7 @@ fn pairs(
     Ok(Items::of(pairs))
 }
 
+/// The response to a command, under its name and id, with these attributes and this body.
 fn response(
     alloc: Global,
     to: &Addressee,

@@ -37,6 +37,7 @@ pub(crate) enum Position {
 }
 
 impl Position {
+    /// The state of a session that stands here.
     pub(crate) fn phase(self) -> Phase
         ensures { result ≡ phase_of self }
     {
@@ -47,6 +48,7 @@ impl Position {
         }
     }
 
+    /// Why a session that stands here came into its state: `ok`, or what its program's end gives.
     pub(crate) fn reason(self) -> Reason
         ensures { result ≡ reason_at self }
     {

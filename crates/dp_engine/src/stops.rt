@@ -6,6 +6,7 @@ ghost use Rattle.dp_engine.specs.Stops as spec;
 use dp_command::Continuation;
 use dp_state::{Moment, MomentKind};
 
+/// Whether a moment of this kind is at a place, and not where a function is entered or left.
 fn is_place(kind: MomentKind) -> bool
     ensures { result ≡ spec.is_place kind }
 {

@@ -25,6 +25,7 @@ impl<R: Inside> Grammar<R> {
         self.inner(tokens, Part::Coalesce)
     }
 
+    /// What an operand makes with a `??` behind it and its right side; itself where no `??` comes next.
     #[tactic(auto, unfolding(crate::specs::inner::Readers::coalesce_rest))]
     fn coalesce_rest(
         &self,
@@ -76,6 +77,7 @@ impl<R: Inside> Grammar<R> {
         Ok(Expression::Conditional(test, middle, Boxed::new(self.alloc(), last)?))
     }
 
+    /// What a test makes with a `?` behind it and the branches; itself where no `?` comes next.
     #[tactic(auto, unfolding(crate::specs::inner::Readers::conditional_rest))]
     fn conditional_rest(
         &self,
@@ -101,6 +103,7 @@ impl<R: Inside> Grammar<R> {
         self.conditional_rest(tokens, test)
     }
 
+    /// Reads an `include` or a `require`, and the expression behind it one level down.
     #[tactic(auto, unfolding(crate::specs::inner::Readers::included))]
     fn included(&self, tokens: &mut Tokens<'_>) -> Result<Expression, Refusal>
         ensures { Reads (within spec.included self.now tokens.old) result tokens.new }
@@ -111,6 +114,7 @@ impl<R: Inside> Grammar<R> {
         Ok(included(self.alloc(), how, of)?)
     }
 
+    /// Reads the `=` behind a place with `[]`, and the expression behind it one level down.
     #[tactic(auto, unfolding(crate::specs::inner::Readers::pushed))]
     fn pushed(&self, tokens: &mut Tokens<'_>, to: Place) -> Result<Expression, Refusal>
         ensures { Reads (within spec.pushed self.now to tokens.old) result tokens.new }
@@ -121,6 +125,7 @@ impl<R: Inside> Grammar<R> {
         Ok(pushed(self.alloc(), to, from)?)
     }
 
+    /// Reads the operator of an assignment to a place, and the expression behind it one level down.
     #[tactic(auto, unfolding(crate::specs::inner::Readers::assignment))]
     fn assignment(&self, tokens: &mut Tokens<'_>, to: Place) -> Result<Expression, Refusal>
         ensures { Reads (within spec.assignment self.now to tokens.old) result tokens.new }
@@ -131,6 +136,7 @@ impl<R: Inside> Grammar<R> {
         Ok(assigned(self.alloc(), to, how, from)?)
     }
 
+    /// Reads an expression behind what it begins with: an assignment to that place, or operators and operands.
     #[tactic(auto, unfolding(crate::specs::inner::Readers::rest_of))]
     fn rest_of(&self, tokens: &mut Tokens<'_>, opening: Operand) -> Result<Expression, Refusal>
         ensures { Reads (within spec.rest_of self.now opening tokens.old) result tokens.new }
@@ -145,6 +151,7 @@ impl<R: Inside> Grammar<R> {
         }
     }
 
+    /// Reads an expression: an inclusion, or what it begins with and what stands behind that.
     #[tactic(auto, unfolding(crate::specs::inner::Readers::whole))]
     fn whole(&self, tokens: &mut Tokens<'_>) -> Result<Expression, Refusal>
         ensures { Reads (within spec.whole self.now tokens.old) result tokens.new }
@@ -156,6 +163,7 @@ impl<R: Inside> Grammar<R> {
         self.rest_of(tokens, opening)
     }
 
+    /// Reads this part of an expression with the levels of nesting that are left.
     #[tactic(auto, unfolding(crate::specs::inner::Readers::reading, crate::specs::inner::Readers::reads_part))]
     pub(crate) fn part(&self, tokens: &mut Tokens<'_>, part: Part) -> Result<Expression, Refusal>
         ensures { Reads (spec.reading self.now part tokens.old) result tokens.new }

@@ -31,6 +31,7 @@ impl<R: Inside> Model for Grammar<R> {
 }
 
 impl<R: Inside> Grammar<R> {
+    /// The rules with so many levels of nesting left, over what reads a part one level down.
     pub(crate) fn new(alloc: Global, level: usize, inner: R) -> Grammar<R>
         requires { R.ready inner level }
         ensures { result ≡ level }
@@ -42,6 +43,7 @@ impl<R: Inside> Grammar<R> {
         }
     }
 
+    /// The allocator of the trees that the rules make.
     pub(crate) fn alloc(&self) -> Global {
         self.alloc
     }

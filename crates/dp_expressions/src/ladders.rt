@@ -41,6 +41,7 @@ fn may_go_on(rank: Rank, links: &[Link]) -> bool
 }
 
 impl<R: Inside> Grammar<R> {
+    /// Reads an operator of this rank, and behind it an operand of the ranks that bind more tightly.
     #[cycle(ladder)]
     #[tactic(auto, unfolding(crate::specs::inner::Readers::link_of))]
     fn link_of(&self, tokens: &mut Tokens<'_>, more: &[Rank], rank: Rank) -> Result<Link, Refusal>
@@ -52,6 +53,7 @@ impl<R: Inside> Grammar<R> {
         Ok(Link { operator, operand })
     }
 
+    /// The links with the next one of this rank, or the end where none comes next or may follow.
     #[cycle(ladder)]
     fn links_step(
         &self,
@@ -70,6 +72,7 @@ impl<R: Inside> Grammar<R> {
         Ok(ControlFlow::Break(all))
     }
 
+    /// Reads the operators of this rank with their operands, up to where none comes next or may follow.
     #[cycle(ladder)]
     #[tactic(auto, unfolding(crate::specs::inner::Readers::links_of))]
     fn links_of(

@@ -64,18 +64,21 @@ pub(crate) fn chained(
     }
 }
 
+/// The tree of a unary operator and its operand.
 pub(crate) fn unary(alloc: Global, by: UnaryOp, of: Expression) -> Result<Expression, Memory>
     ensures { IfOk result (λ e. e ≡ Expression.Unary by of) }
 {
     Ok(Expression::Unary(by, Boxed::new(alloc, of)?))
 }
 
+/// The tree of an `include` or a `require` of what an expression names.
 pub(crate) fn included(alloc: Global, how: Inclusion, of: Expression) -> Result<Expression, Memory>
     ensures { IfOk result (λ e. e ≡ Expression.Include how of) }
 {
     Ok(Expression::Include(how, Boxed::new(alloc, of)?))
 }
 
+/// The tree of an assignment to a place with `[]` behind it.
 pub(crate) fn pushed(alloc: Global, to: Place, from: Expression) -> Result<Expression, Memory>
     ensures { IfOk result (λ e. e ≡ Expression.Push to from) }
 {

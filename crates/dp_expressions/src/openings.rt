@@ -39,6 +39,7 @@ impl<R: Inside> Grammar<R> {
         Ok(ControlFlow::Continue(with(found, at)?))
     }
 
+    /// The indices of a variable with the next one, or the operand that they make where none comes next.
     fn opening_step(
         &self,
         tokens: &mut Tokens<'_>,
@@ -54,6 +55,7 @@ impl<R: Inside> Grammar<R> {
         Ok(ControlFlow::Break(self.step_last(tokens, place)?))
     }
 
+    /// Reads what begins with this variable: its indices, and `[]`, `++` or `--` behind them.
     fn opening_from(&self, tokens: &mut Tokens<'_>, name: &[u8]) -> Result<Operand, Refusal>
         ensures { Reads (closed (within spec.opening_step self.now name.now) [] tokens.old) result tokens.new }
     {

@@ -29,6 +29,7 @@ impl<R: Inside> Grammar<R> {
         Ok(within)
     }
 
+    /// The item of an array literal that begins with this: its key where `=>` comes next, else its value.
     #[tactic(auto, unfolding(crate::specs::inner::Readers::item_rest))]
     fn item_rest(&self, tokens: &mut Tokens<'_>, first: Expression) -> Result<Item, Refusal>
         requires { 0 < self.now }
@@ -58,6 +59,7 @@ impl<R: Inside> Grammar<R> {
         self.item_rest(tokens, first)
     }
 
+    /// Reads an array literal in brackets.
     #[tactic(auto, unfolding(crate::specs::inner::Readers::literal))]
     fn literal(&self, tokens: &mut Tokens<'_>) -> Result<Expression, Refusal>
         ensures { Reads (within spec.literal self.now tokens.old) result tokens.new }
@@ -69,6 +71,7 @@ impl<R: Inside> Grammar<R> {
         Ok(Expression::Array(items))
     }
 
+    /// Reads an array literal in the form of a call of `array`.
     #[tactic(auto, unfolding(crate::specs::inner::Readers::array_call))]
     fn array_call(&self, tokens: &mut Tokens<'_>) -> Result<Expression, Refusal>
         ensures { Reads (within spec.array_call self.now tokens.old) result tokens.new }
@@ -81,6 +84,7 @@ impl<R: Inside> Grammar<R> {
         Ok(Expression::Array(items))
     }
 
+    /// Reads a call of a function: its name, and its arguments in parentheses.
     #[tactic(auto, unfolding(crate::specs::inner::Readers::call))]
     fn call(&self, tokens: &mut Tokens<'_>) -> Result<Expression, Refusal>
         ensures { Reads (within spec.call self.now tokens.old) result tokens.new }
@@ -96,6 +100,7 @@ impl<R: Inside> Grammar<R> {
         Ok(Expression::Call(name, arguments))
     }
 
+    /// Reads an `isset` of one place or more.
     #[tactic(auto, unfolding(crate::specs::inner::Readers::isset))]
     fn isset(&self, tokens: &mut Tokens<'_>) -> Result<Expression, Refusal>
         ensures { Reads (within spec.isset self.now tokens.old) result tokens.new }
@@ -108,6 +113,7 @@ impl<R: Inside> Grammar<R> {
         Ok(Expression::Isset(places))
     }
 
+    /// Reads a text, a constant, an expression in parentheses, an array literal or a call; else refuses.
     #[tactic(auto, unfolding(crate::specs::inner::Readers::primary, dp_token_rules::specs::inner::Input::refuse))]
     fn primary(&self, tokens: &mut Tokens<'_>) -> Result<Expression, Refusal>
         ensures { Reads (within spec.primary self.now tokens.old) result tokens.new }
@@ -133,6 +139,7 @@ impl<R: Inside> Grammar<R> {
         Err(tokens.refuse())
     }
 
+    /// Reads an operator that stands before its operand, and the operand one level down.
     #[tactic(auto, unfolding(crate::specs::inner::Readers::prefixed))]
     fn prefixed(&self, tokens: &mut Tokens<'_>) -> Result<Expression, Refusal>
         ensures { Reads (within spec.prefixed self.now tokens.old) result tokens.new }
@@ -143,6 +150,7 @@ impl<R: Inside> Grammar<R> {
         Ok(unary(self.alloc(), by, of)?)
     }
 
+    /// Reads a `++` or a `--` that stands before its place, and the place.
     #[tactic(auto, unfolding(crate::specs::inner::Readers::stepped_first))]
     fn stepped_first(&self, tokens: &mut Tokens<'_>) -> Result<Expression, Refusal>
         ensures { Reads (within spec.stepped_first self.now tokens.old) result tokens.new }

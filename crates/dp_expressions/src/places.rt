@@ -28,6 +28,7 @@ impl<R: Inside> Grammar<R> {
         Ok(at)
     }
 
+    /// Reads any number of indices, each in its brackets.
     #[tactic(auto, unfolding(crate::specs::inner::Readers::indices))]
     pub(crate) fn indices(&self, tokens: &mut Tokens<'_>) -> Result<Items<Expression>, Refusal>
         ensures { Reads (within spec.indices self.now tokens.old) result tokens.new }
@@ -40,6 +41,7 @@ impl<R: Inside> Grammar<R> {
         )
     }
 
+    /// Reads a place: a variable that a program may name, and its indices.
     #[tactic(auto, unfolding(crate::specs::inner::Readers::place_rule))]
     pub(crate) fn place_rule(&self, tokens: &mut Tokens<'_>) -> Result<Place, Refusal>
         ensures { Reads (within spec.place_rule self.now tokens.old) result tokens.new }

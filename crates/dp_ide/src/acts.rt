@@ -63,6 +63,7 @@ fn named_in(alloc: Global, bytes: &[u8]) -> Result<Option<Named>, Memory>
     }
 }
 
+/// The instruction that `attr ` and these bytes spell, if they are a name and a text.
 fn attr_in(alloc: Global, bytes: &[u8]) -> Result<Option<Act>, Memory>
     ensures { IfOk result (Reads ActLine (codes "attr " ++ bytes.now)) }
 {
@@ -72,6 +73,7 @@ fn attr_in(alloc: Global, bytes: &[u8]) -> Result<Option<Act>, Memory>
     }
 }
 
+/// The instruction that `prop ` and these bytes spell, if they are a name and a text.
 fn prop_in(alloc: Global, bytes: &[u8]) -> Result<Option<Act>, Memory>
     ensures { IfOk result (Reads ActLine (codes "prop " ++ bytes.now)) }
 {
@@ -81,6 +83,7 @@ fn prop_in(alloc: Global, bytes: &[u8]) -> Result<Option<Act>, Memory>
     }
 }
 
+/// The instruction that `code ` and these bytes spell, if they are a number of 16 bits.
 fn code_in(bytes: &[u8]) -> Option<Act>
     ensures { Reads ActLine (codes "code " ++ bytes.now) result }
 {
@@ -90,6 +93,7 @@ fn code_in(bytes: &[u8]) -> Option<Act>
     }
 }
 
+/// The instruction that `out` and these bytes spell, if they are a text behind one space, or nothing.
 fn out_in(alloc: Global, bytes: &[u8]) -> Result<Option<Act>, Memory>
     ensures { IfOk result (Reads ActLine (codes "out" ++ bytes.now)) }
 {

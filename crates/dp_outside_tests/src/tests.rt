@@ -68,6 +68,7 @@ fn fetched<H: Shelf>(
     }
 }
 
+/// Three files under two names: the first under `a.php` is `hello`, and the one under `b.php` is empty.
 fn two_files(alloc: Global) -> Result<Vec<(String, Vec<u8>)>, Memory> {
     let mut files = Vec::new(alloc);
     files.push((String::from_str(alloc, "a.php")?, b"hello".to_vec(alloc)?))?;
@@ -92,6 +93,7 @@ fn source_gives(
     Ok((seen, left))
 }
 
+/// A source gives its bytes as they are cut, and fails at the takes that it is told to without losing any.
 #[test]
 fn sources_give_pieces(rt: HostRuntime) -> Result<(), Fail> {
     let rows = [
@@ -139,6 +141,7 @@ fn sink_takes(
     Ok((seen, taken))
 }
 
+/// A sink takes each text whole or not at all, and fails where it has no room or is told to.
 #[test]
 fn sinks_take_what_fits(rt: HostRuntime) -> Result<(), Fail> {
     let rows = [
@@ -167,6 +170,7 @@ fn sinks_take_what_fits(rt: HostRuntime) -> Result<(), Fail> {
     Ok(())
 }
 
+/// A shelf fetches the first file of a name, at most one byte more than the limit, or says why not.
 #[test]
 fn shelves_fetch_by_name(rt: HostRuntime) -> Result<(), Fail> {
     let alloc = rt.alloc();
@@ -187,20 +191,24 @@ fn shelves_fetch_by_name(rt: HostRuntime) -> Result<(), Fail> {
     Ok(())
 }
 
+/// What a source that never fails gives in three takes of at most 4 bytes.
 fn sure_source_gives(alloc: Global) -> Result<Vec<u8>, Memory> {
     let mut source = SureByteSource::new(b"hello".to_vec(alloc)?, Vec::new(alloc))?;
     takes(alloc, &mut source, 4, 3)
 }
 
+/// What a sink that never fails answers to two puts.
 fn sure_sink_takes(alloc: Global) -> Result<Vec<u8>, Memory> {
     puts(alloc, &mut SureByteSink::new()?, &["ab", "cd"])
 }
 
+/// What a shelf that never fails fetches under a name, with a limit of 1.
 fn sure_shelf_fetches(alloc: Global, name: &str) -> Result<Vec<u8>, Memory> {
     let mut shelf = SureMapShelf::new(two_files(alloc)?)?;
     fetched(alloc, &mut shelf, name, 1)
 }
 
+/// The answers of a source, a sink and a shelf that never fail, one behind another.
 fn sure_answers(alloc: Global) -> Result<Vec<u8>, Memory> {
     let mut seen = sure_source_gives(alloc)?;
     seen.extend_from_slice(&sure_sink_takes(alloc)?)?;
@@ -209,6 +217,7 @@ fn sure_answers(alloc: Global) -> Result<Vec<u8>, Memory> {
     Ok(seen)
 }
 
+/// What never fails gives and takes all bytes, and fetches a file, or says that it is missing.
 #[test]
 fn the_sure_never_fail(rt: HostRuntime) -> Result<(), Fail> {
     let seen = sure_answers(rt.alloc())?;
@@ -216,6 +225,7 @@ fn the_sure_never_fail(rt: HostRuntime) -> Result<(), Fail> {
     Ok(())
 }
 
+/// Hosts are 1 to 64 bytes from `!` to `~`; an absent net and an absent gate refuse what they are asked.
 #[test]
 fn hosts_are_read_and_the_absent_refuse(rt: HostRuntime) -> Result<(), Fail> {
     let long = [b'a'; 65];
@@ -264,6 +274,7 @@ struct Shaky {
 }
 
 impl Shaky {
+    /// Counts a call, and says how it goes: the first is interrupted, the third fails, and the others work.
     fn turn(&mut self) -> io::Result<()> {
         self.calls = self.calls.saturating_add(1);
         match self.calls {
@@ -304,11 +315,13 @@ impl Write for Shaky {
     }
 }
 
+/// Writes the file `a.php`, and makes the folder `folder`.
 fn write_files<F: Files>(files: &F) -> io::Result<()> {
     fs::write(files, "a.php", b"hello")?;
     fs::create_dir(files, "folder")
 }
 
+/// A shelf over files fetches the front of a file, and counts each failure but a missing file.
 #[test]
 fn file_shelves_fetch_files(rt: HostRuntime) -> Result<(), Fail> {
     write_files(&rt)?;
@@ -329,6 +342,7 @@ fn file_shelves_fetch_files(rt: HostRuntime) -> Result<(), Fail> {
     Ok(())
 }
 
+/// A reader and writer of this sort that was not called yet.
 fn untried(alloc: Global) -> Shaky {
     Shaky {
         calls: 0,
@@ -337,6 +351,7 @@ fn untried(alloc: Global) -> Shaky {
     }
 }
 
+/// A reader is a source: an interrupted read is made again, and one that fails is a take that fails.
 #[test]
 fn readers_are_sources(rt: HostRuntime) -> Result<(), Fail> {
     let mut steady = ReaderSource::new(b"hello".as_slice());
@@ -355,6 +370,7 @@ fn readers_are_sources(rt: HostRuntime) -> Result<(), Fail> {
     Ok(())
 }
 
+/// A writer is a sink: an interrupted write is made again, and a put fails where a write or the flush does.
 #[test]
 fn writers_are_sinks(rt: HostRuntime) -> Result<(), Fail> {
     let mut sink = WriterSink::new(untried(rt.alloc()));
@@ -445,6 +461,7 @@ fn results<P: Spawner>(alloc: Global, spawner: &mut P, count: u32) -> Result<Vec
     Ok(results)
 }
 
+/// Two jobs and a crew of them run with threads and without, and a job whose start is refused comes back.
 #[test]
 fn jobs_run_or_come_back(rt: HostRuntime) -> Result<(), Fail> {
     let alloc = rt.alloc();
@@ -472,6 +489,7 @@ fn jobs_run_or_come_back(rt: HostRuntime) -> Result<(), Fail> {
     Ok(())
 }
 
+/// A spawner refuses the starts whose numbers it was given, and its twin refuses none.
 #[test]
 fn starts_are_refused_where_they_are_told_to_be(rt: HostRuntime) -> Result<(), Fail> {
     let alloc = rt.alloc();
@@ -542,6 +560,7 @@ fn crew_meets<P: Spawner>(alloc: Global, spawner: &mut P) -> Result<usize, Memor
     )
 }
 
+/// Jobs that wait for each other meet in threads, as two jobs and as a crew, and with a stack size given.
 #[test]
 fn jobs_meet_in_threads(rt: HostRuntime) -> Result<(), Fail> {
     let alloc = rt.alloc();
@@ -567,6 +586,7 @@ fn jobs_meet_in_threads(rt: HostRuntime) -> Result<(), Fail> {
     Ok(())
 }
 
+/// A start that the system refuses is counted as a fault, and its job comes back without having run.
 #[test]
 fn a_start_that_the_system_refuses_hands_the_job_back(rt: HostRuntime) -> Result<(), Fail> {
     let alloc = rt.alloc();
@@ -611,6 +631,7 @@ fn worked<P: Spawner>(alloc: Global, spawner: &mut P, count: u32) -> Result<Vec<
     Ok(done)
 }
 
+/// A closure with an item is a job, which has the item where its start is refused.
 #[test]
 fn closures_are_jobs(rt: HostRuntime) -> Result<(), Fail> {
     let alloc = rt.alloc();
@@ -657,6 +678,7 @@ fn links_to_itself<N: Net>(alloc: Global, net: &mut N, port: u16) -> Result<Vec<
     Ok(seen)
 }
 
+/// A link carries bytes over loopback; a put behind its end fails, and so does a dial where the gate is shut.
 #[test]
 fn links_go_over_loopback(rt: HostRuntime) -> Result<(), Fail> {
     let port = free_port(&rt)?;
@@ -710,6 +732,7 @@ fn quiet_links<R: Threads, N: Net>(
     Ok(seen)
 }
 
+/// A take from a link that has given nothing fails at the limit; one from a link that gave a byte waits on.
 #[test]
 fn a_silent_link_is_given_up(rt: HostRuntime) -> Result<(), Fail> {
     let port = free_port(&rt)?;

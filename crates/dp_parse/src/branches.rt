@@ -89,6 +89,7 @@ impl<R: Inside> Statements<R> {
         Ok(ControlFlow::Break(self.otherwise(tokens, arms)?))
     }
 
+    /// The arms of an `if` with the next one, or the whole statement where no further arm comes.
     fn arms_step(
         &self,
         tokens: &mut Tokens<'_>,
@@ -127,6 +128,7 @@ impl<R: Inside> Statements<R> {
         Err(tokens.refuse())
     }
 
+    /// Reads an `if` with its arms, and the body of its `else` if it has one.
     #[tactic(auto, unfolding(crate::specs::inner::StatementRules::if_rule))]
     pub(crate) fn if_rule(&self, tokens: &mut Tokens<'_>) -> Result<Ended, Refusal>
         ensures { Reads (within spec.if_rule self.now tokens.old) result tokens.new }

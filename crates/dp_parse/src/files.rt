@@ -60,6 +60,7 @@ pub(crate) fn function(alloc: Global, tokens: &mut Tokens<'_>) -> Result<Functio
     })
 }
 
+/// The parts of a file with the statement of a body behind its others.
 fn with_statement(parts: Parts, body: Body) -> Result<Parts, Memory>
     ensures { IfOk result (λ more. more ≡ grammar.with_statement parts body) }
 {
@@ -73,6 +74,7 @@ fn with_statement(parts: Parts, body: Body) -> Result<Parts, Memory>
     })
 }
 
+/// The parts of a file with a function behind its others.
 fn with_function(parts: Parts, function: Function) -> Result<Parts, Memory>
     ensures { IfOk result (λ more. more ≡ grammar.with_function parts function) }
 {
@@ -83,6 +85,7 @@ fn with_function(parts: Parts, function: Function) -> Result<Parts, Memory>
     })
 }
 
+/// The parts of a file with the next function or statement, or the end where no token is left.
 fn file_step(
     alloc: Global,
     tokens: &mut Tokens<'_>,
@@ -119,6 +122,7 @@ pub(crate) fn file(alloc: Global, tokens: &mut Tokens<'_>) -> Result<Parts, Refu
     Err(tokens.refuse())
 }
 
+/// What was found, where the end comes next; refuses at any token.
 #[tactic(auto, unfolding(crate::specs::inner::StatementRules::at_end, dp_token_rules::specs::inner::Input::refuse))]
 fn at_end(tokens: &mut Tokens<'_>, found: Expression) -> Result<Expression, Refusal>
     ensures { Reads (spec.at_end found tokens.old) result tokens.new }

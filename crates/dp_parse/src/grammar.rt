@@ -31,6 +31,7 @@ impl<R: Inside> Model for Statements<R> {
 }
 
 impl<R: Inside> Statements<R> {
+    /// The rules with so many levels of bodies left, in so many loops, over what reads a body one level down.
     pub(crate) fn new(alloc: Global, level: usize, loops: u32, inner: R) -> Statements<R>
         requires few { loops + level < 2 ^ 32 }
         requires ready { R.ready inner level loops }
@@ -44,6 +45,7 @@ impl<R: Inside> Statements<R> {
         }
     }
 
+    /// The allocator of the trees that the rules make.
     pub(crate) fn alloc(&self) -> Global {
         self.alloc
     }

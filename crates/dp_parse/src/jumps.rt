@@ -45,6 +45,7 @@ fn variables(alloc: Global, tokens: &mut Tokens<'_>) -> Result<Items<Bytes>, Ref
     )
 }
 
+/// Reads a `global` of one variable or more, up to its `;`.
 #[tactic(auto, unfolding(crate::specs::inner::StatementRules::global_rule))]
 pub(crate) fn global_rule(alloc: Global, tokens: &mut Tokens<'_>) -> Result<Ended, Refusal>
     ensures { Reads (spec.global_rule tokens.old) result tokens.new }
@@ -54,6 +55,7 @@ pub(crate) fn global_rule(alloc: Global, tokens: &mut Tokens<'_>) -> Result<Ende
     whole(alloc, tokens, StatementKind::Global(names))
 }
 
+/// Reads an `exit` or a `die`, for its line.
 #[tactic(auto, unfolding(crate::specs::inner::StatementRules::exit_word))]
 fn exit_word(tokens: &mut Tokens<'_>) -> Result<u32, Refusal>
     ensures { Reads (spec.exit_word tokens.old) result tokens.new }
@@ -78,6 +80,7 @@ impl<R: Inside> Statements<R> {
         }
     }
 
+    /// Reads how many loops a jump is about, and its `;`.
     #[tactic(auto, unfolding(crate::specs::inner::StatementRules::loops_rule))]
     fn loops_rule(&self, tokens: &mut Tokens<'_>) -> Result<u32, Refusal>
         ensures { Reads (within spec.loops_rule self.now tokens.old) result tokens.new }
@@ -87,6 +90,7 @@ impl<R: Inside> Statements<R> {
         Ok(count)
     }
 
+    /// Reads a `break` up to its `;`; refuses outside of loops, and at a number above that of the loops.
     #[tactic(auto, unfolding(crate::specs::inner::StatementRules::break_rule, dp_token_rules::specs::inner::Input::refuse))]
     pub(crate) fn break_rule(&self, tokens: &mut Tokens<'_>) -> Result<Ended, Refusal>
         ensures { Reads (within spec.break_rule self.now tokens.old) result tokens.new }
@@ -99,6 +103,7 @@ impl<R: Inside> Statements<R> {
         whole(self.alloc(), tokens, StatementKind::Break(count))
     }
 
+    /// Reads a `continue` up to its `;`; refuses outside of loops, and at a number above that of the loops.
     #[tactic(auto, unfolding(crate::specs::inner::StatementRules::continue_rule, dp_token_rules::specs::inner::Input::refuse))]
     pub(crate) fn continue_rule(&self, tokens: &mut Tokens<'_>) -> Result<Ended, Refusal>
         ensures { Reads (within spec.continue_rule self.now tokens.old) result tokens.new }
@@ -129,6 +134,7 @@ impl<R: Inside> Statements<R> {
         Ok(Some(value))
     }
 
+    /// Reads a `return` up to its `;`, with its value if it has one.
     #[tactic(auto, unfolding(crate::specs::inner::StatementRules::return_rule))]
     pub(crate) fn return_rule(&self, tokens: &mut Tokens<'_>) -> Result<Ended, Refusal>
         ensures { Reads (within spec.return_rule self.now tokens.old) result tokens.new }
@@ -138,6 +144,7 @@ impl<R: Inside> Statements<R> {
         whole(self.alloc(), tokens, StatementKind::Return(value))
     }
 
+    /// Reads an `unset` of one place or more, up to its `;`.
     #[tactic(auto, unfolding(crate::specs::inner::StatementRules::unset))]
     pub(crate) fn unset(&self, tokens: &mut Tokens<'_>) -> Result<Ended, Refusal>
         ensures { Reads (within spec.unset self.now tokens.old) result tokens.new }
@@ -149,6 +156,7 @@ impl<R: Inside> Statements<R> {
         whole(self.alloc(), tokens, StatementKind::Unset(places))
     }
 
+    /// Reads the value of an `exit` in its parentheses, if it has them and a value in them.
     #[tactic(auto, unfolding(crate::specs::inner::StatementRules::exit_value))]
     fn exit_value(&self, tokens: &mut Tokens<'_>) -> Result<Option<Expression>, Refusal>
         ensures { Reads (within spec.exit_value self.now tokens.old) result tokens.new }
@@ -161,6 +169,7 @@ impl<R: Inside> Statements<R> {
         }
     }
 
+    /// Reads an `exit` or a `die` up to its `;`, with its value if it has one.
     #[tactic(auto, unfolding(crate::specs::inner::StatementRules::exit))]
     pub(crate) fn exit(&self, tokens: &mut Tokens<'_>) -> Result<Ended, Refusal>
         ensures { Reads (within spec.exit self.now tokens.old) result tokens.new }

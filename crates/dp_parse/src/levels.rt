@@ -17,12 +17,14 @@ pub(crate) const EXPRESSION_LEVELS: usize = 32;
 /// How many levels of nesting a body has at most.
 pub(crate) const BODY_LEVELS: usize = 32;
 
+/// Reads an expression; refuses where it has more levels of nesting than programs have.
 pub(crate) fn expression(alloc: Global, tokens: &mut Tokens<'_>) -> Result<Expression, Refusal>
     ensures { Reads (limited.expression tokens.old) result tokens.new }
 {
     dp_expressions::expression(alloc, tokens, EXPRESSION_LEVELS, Part::Whole)
 }
 
+/// Reads a place; refuses where it has more levels of nesting than programs have.
 pub(crate) fn place(alloc: Global, tokens: &mut Tokens<'_>) -> Result<Place, Refusal>
     ensures { Reads (limited.place tokens.old) result tokens.new }
 {

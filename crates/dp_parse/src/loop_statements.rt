@@ -16,6 +16,7 @@ use dp_tree::{Binding, Expression, StatementKind};
 use dp_value::Bytes;
 use std::alloc::Global;
 
+/// What a `foreach` binds whose first variable was read: the key where `=>` comes next, else the value.
 #[tactic(auto, unfolding(crate::specs::inner::StatementRules::bound_rest))]
 fn bound_rest(alloc: Global, tokens: &mut Tokens<'_>, first: Bytes) -> Result<Binding, Refusal>
     ensures { Reads (spec.bound_rest first tokens.old) result tokens.new }
@@ -52,6 +53,7 @@ impl<R: Inside> Statements<R> {
         self.head_body(tokens, self.one_loop_more())
     }
 
+    /// Reads a `while` with its test and its body.
     #[tactic(auto, unfolding(crate::specs::inner::StatementRules::while_rule, crate::specs::inner::StatementRules::loop_body))]
     pub(crate) fn while_rule(&self, tokens: &mut Tokens<'_>) -> Result<Ended, Refusal>
         ensures { Reads (within spec.while_rule self.now tokens.old) result tokens.new }
@@ -70,6 +72,7 @@ impl<R: Inside> Statements<R> {
         )
     }
 
+    /// Reads a `do` with its body, its `while` and test behind that, and its `;`.
     #[tactic(auto, unfolding(crate::specs::inner::StatementRules::do_while))]
     pub(crate) fn do_while(&self, tokens: &mut Tokens<'_>) -> Result<Ended, Refusal>
         ensures { Reads (within spec.do_while self.now tokens.old) result tokens.new }
@@ -88,6 +91,7 @@ impl<R: Inside> Statements<R> {
         )
     }
 
+    /// Reads a `for` with its three lists of expressions and its body.
     #[tactic(auto, unfolding(crate::specs::inner::StatementRules::for_rule, crate::specs::inner::StatementRules::loop_body))]
     pub(crate) fn for_rule(&self, tokens: &mut Tokens<'_>) -> Result<Ended, Refusal>
         ensures { Reads (within spec.for_rule self.now tokens.old) result tokens.new }
@@ -108,6 +112,7 @@ impl<R: Inside> Statements<R> {
         finished(self.alloc(), tokens, kind, is_open)
     }
 
+    /// Reads a `foreach` with its subject, the variables that it binds, and its body.
     #[tactic(auto, unfolding(crate::specs::inner::StatementRules::foreach))]
     pub(crate) fn foreach(&self, tokens: &mut Tokens<'_>) -> Result<Ended, Refusal>
         ensures { Reads (within spec.foreach self.now tokens.old) result tokens.new }

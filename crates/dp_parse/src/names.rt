@@ -24,6 +24,7 @@ impl Model for Names {
 }
 
 impl Names {
+    /// No names.
     pub(crate) fn new(alloc: Global) -> Names
         ensures { result ≡ [] }
     {

@@ -40,6 +40,7 @@ fn behind_comma(
     Ok(ControlFlow::Continue(parameter(alloc, tokens, found)?))
 }
 
+/// The names with the next parameter behind a comma, or the end at the `)`, also behind a comma.
 fn comma_step(
     alloc: Global,
     tokens: &mut Tokens<'_>,
@@ -55,6 +56,7 @@ fn comma_step(
     Ok(ControlFlow::Break(found))
 }
 
+/// The first parameter with those behind it, up to the `)`; one comma may stand before that.
 fn comma_turns(alloc: Global, tokens: &mut Tokens<'_>, first: Names) -> Result<Names, Refusal>
     ensures { Reads (closed (lists.comma_step spec.checked Terminal.CloseParenthesis) first tokens.old) result
         tokens.new }
@@ -69,6 +71,7 @@ fn comma_turns(alloc: Global, tokens: &mut Tokens<'_>, first: Names) -> Result<N
     Err(tokens.refuse())
 }
 
+/// Reads one parameter or more up to the `)`; refuses at a name that one before it has.
 #[tactic(auto, unfolding(dp_token_rules::specs::inner::ListReaders::some_items))]
 fn some_parameters(alloc: Global, tokens: &mut Tokens<'_>) -> Result<Names, Refusal>
     ensures { Reads (lists.some_items spec.checked Terminal.CloseParenthesis tokens.old) result tokens.new }
@@ -77,6 +80,7 @@ fn some_parameters(alloc: Global, tokens: &mut Tokens<'_>) -> Result<Names, Refu
     comma_turns(alloc, tokens, first)
 }
 
+/// Reads any number of parameters up to the `)`; refuses at a name that one before it has.
 #[tactic(auto, unfolding(dp_token_rules::specs::inner::ListReaders::any_items))]
 fn checked_parameters(alloc: Global, tokens: &mut Tokens<'_>) -> Result<Items<Bytes>, Refusal>
     ensures { Reads (lists.any_items spec.checked Terminal.CloseParenthesis tokens.old) result tokens.new }

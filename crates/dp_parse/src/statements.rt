@@ -19,6 +19,7 @@ use dp_value::Items;
 use std::alloc::Global;
 use std::ops::ControlFlow;
 
+/// Reads a `;` that is a statement by itself.
 #[tactic(auto, unfolding(crate::specs::inner::StatementRules::empty))]
 fn empty(alloc: Global, tokens: &mut Tokens<'_>) -> Result<Ended, Refusal>
     ensures { Reads (spec.empty tokens.old) result tokens.new }
@@ -28,6 +29,7 @@ fn empty(alloc: Global, tokens: &mut Tokens<'_>) -> Result<Ended, Refusal>
 }
 
 impl<R: Inside> Statements<R> {
+    /// The statements with the next one, or the end at the closing brace.
     fn bodies_step(
         &self,
         tokens: &mut Tokens<'_>,
@@ -94,6 +96,7 @@ impl<R: Inside> Statements<R> {
         self.body(tokens, loops)
     }
 
+    /// Reads an expression that is a statement, up to its `;`.
     #[tactic(auto, unfolding(crate::specs::inner::StatementRules::perform))]
     fn perform(&self, tokens: &mut Tokens<'_>) -> Result<Ended, Refusal>
         ensures { Reads (within spec.perform self.now tokens.old) result tokens.new }
@@ -103,6 +106,7 @@ impl<R: Inside> Statements<R> {
         whole(self.alloc(), tokens, StatementKind::Expression(value))
     }
 
+    /// Reads an `echo` of one expression or more, up to its `;`.
     #[tactic(auto, unfolding(crate::specs::inner::StatementRules::echo))]
     fn echo(&self, tokens: &mut Tokens<'_>) -> Result<Ended, Refusal>
         ensures { Reads (within spec.echo self.now tokens.old) result tokens.new }
@@ -112,6 +116,7 @@ impl<R: Inside> Statements<R> {
         whole(self.alloc(), tokens, StatementKind::Echo(values))
     }
 
+    /// Reads a block: statements in braces, one level down.
     #[tactic(auto, unfolding(crate::specs::inner::StatementRules::block))]
     fn block(&self, tokens: &mut Tokens<'_>) -> Result<Ended, Refusal>
         ensures { Reads (within spec.block self.now tokens.old) result tokens.new }
@@ -120,6 +125,7 @@ impl<R: Inside> Statements<R> {
         self.braced(tokens, self.loops())
     }
 
+    /// Reads a statement of the sort that its first token tells, which is an expression if it tells no other.
     #[tactic(auto, unfolding(crate::specs::inner::StatementRules::any_statement, crate::specs::inner::StatementRules::by_keyword))]
     fn any_statement(&self, tokens: &mut Tokens<'_>) -> Result<Ended, Refusal>
         ensures { Reads (within spec.any_statement self.now tokens.old) result tokens.new }

@@ -26,6 +26,7 @@ fn first_other(wanted: &[u8], found: &[u8]) -> usize {
 }
 
 impl Differences {
+    /// No differences.
     pub fn new(alloc: Global) -> Differences {
         Differences {
             lines: String::new(alloc),
@@ -68,6 +69,7 @@ impl Differences {
         Ok(())
     }
 
+    /// Puts a line with a word and the bytes, or with those around a place where they are too many to show.
     fn show(&mut self, word: &str, bytes: &[u8], at: usize) -> Result<(), Memory> {
         write!(self.lines, "        {word} \"")?;
         let from = if bytes.len() > SHOWN {

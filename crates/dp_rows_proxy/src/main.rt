@@ -25,6 +25,7 @@ fn put_file(alloc: Global, report: &mut Report, file: &RowFile) -> Result<(), Me
     report.put_file(file.name.as_str())
 }
 
+/// Makes the calls of all files of rows in the folder where it runs, and prints the report.
 fn main(rt: HostRuntime) -> io::Result<()> {
     let mut report = Report::new(rt.alloc());
     for file in read_files(&rt)?.iter() {

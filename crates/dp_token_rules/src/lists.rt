@@ -59,6 +59,7 @@ fn behind_comma<T: Drop, P: Piece<T>>(
     Ok(ControlFlow::Continue(with(all, value)?))
 }
 
+/// The items with the next one behind a comma, or the end at what closes them, also behind a comma.
 fn comma_step<T: Drop, P: Piece<T>>(
     tokens: &mut Tokens<'_>,
     close: Terminal,
@@ -91,6 +92,7 @@ pub fn some_items<T: Drop, P: Piece<T>>(
     comma_turns(tokens, close, item, with(none(alloc), first)?)
 }
 
+/// The first item with those behind it, up to what closes them; one comma may stand before that.
 fn comma_turns<T: Drop, P: Piece<T>>(
     tokens: &mut Tokens<'_>,
     close: Terminal,
@@ -128,6 +130,7 @@ pub fn any_items<T: Drop, P: Piece<T>>(
     some_items(alloc, tokens, close, item)
 }
 
+/// The items with the next one behind a comma, or the end at what closes them.
 fn plain_step<T: Drop, P: Piece<T>>(
     tokens: &mut Tokens<'_>,
     close: Terminal,
@@ -146,6 +149,7 @@ fn plain_step<T: Drop, P: Piece<T>>(
     Ok(ControlFlow::Break(all))
 }
 
+/// The first item with those behind it, each behind a comma, up to what closes them.
 fn plain_turns<T: Drop, P: Piece<T>>(
     tokens: &mut Tokens<'_>,
     close: Terminal,
@@ -219,6 +223,7 @@ pub fn many<T: Drop, P: Piece<T>>(
     Err(tokens.refuse())
 }
 
+/// The pieces with the next one, or the end where no token of this sort comes next.
 fn many_step<T: Drop, P: Piece<T>>(
     tokens: &mut Tokens<'_>,
     begin: Terminal,

@@ -157,6 +157,7 @@ fn lexical(why: LexError) -> Failure
     }
 }
 
+/// The failure of a file that is no program, for this reason and with this number.
 fn source(reason: Reason, number: u64) -> Failure
     ensures { result ≡ Failure.Source reason number }
 {
@@ -294,6 +295,7 @@ fn bound_reached(alloc: Global, steps: u64) -> Result<Bytes, Memory>
     )
 }
 
+/// The line on an offset at which no command and no packet stands.
 fn bad_packet(alloc: Global, offset: u64) -> Result<Bytes, Memory>
     ensures { IfOk result (λ line. line ≡ codes "bad packet offset " ++ decimal offset ++ codes "\n") }
 {

@@ -38,6 +38,7 @@ struct Ended {
     err: Vec<u8>,
 }
 
+/// The words of a call, copied.
 fn texts(alloc: Global, words: &[&str]) -> Result<Vec<String>, Memory> {
     let mut texts = Vec::new(alloc);
     for word in words {
@@ -122,6 +123,7 @@ fn free_port<R: Sockets<Listener = TcpListener, Stream = TcpStream>>(rt: &R) -> 
     Ok(listener.local_addr()?.port())
 }
 
+/// An engine and a scripted IDE meet over loopback: both end with 0, and the program writes `7`.
 #[test]
 fn an_engine_and_a_script_meet(rt: HostRuntime) -> Result<(), Fail> {
     let alloc = rt.alloc();

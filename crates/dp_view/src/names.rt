@@ -33,6 +33,7 @@ pub(crate) fn key_text(alloc: Global, key: &Key) -> Result<Bytes, Memory>
     }
 }
 
+/// Puts the index of a text behind others: its bytes, escaped, between quotes and brackets.
 fn put_text_index(out: &mut Vec<u8>, bytes: &[u8]) -> Result<(), Memory>
     ensures { OnOk result (out.new.items ≡ out.old.items ++ spec.text_index bytes.now) }
 {
@@ -41,6 +42,7 @@ fn put_text_index(out: &mut Vec<u8>, bytes: &[u8]) -> Result<(), Memory>
     out.extend_from_slice(b"\"]")
 }
 
+/// Puts the index of an integer behind others: its decimal between brackets.
 fn put_int_index(out: &mut Vec<u8>, n: i64) -> Result<(), Memory>
     ensures { OnOk result (out.new.items ≡ out.old.items ++ spec.int_index n) }
 {
@@ -51,6 +53,7 @@ fn put_int_index(out: &mut Vec<u8>, n: i64) -> Result<(), Memory>
     Ok(())
 }
 
+/// Puts the index by which the entry under a key is named behind others.
 fn put_index(out: &mut Vec<u8>, key: &Key) -> Result<(), Memory>
     ensures { OnOk result (out.new.items ≡ out.old.items ++ index_of key.now) }
 {
@@ -60,6 +63,7 @@ fn put_index(out: &mut Vec<u8>, key: &Key) -> Result<(), Memory>
     }
 }
 
+/// Puts the indices of these keys behind others, in their order.
 fn put_indices(out: &mut Vec<u8>, keys: &[Key]) -> Result<(), Memory>
     ensures { OnOk result (out.new.items ≡ out.old.items ++ flat_map index_of keys.now) }
 {
@@ -90,6 +94,7 @@ pub(crate) fn full_name(alloc: Global, path: &Path) -> Result<Bytes, Memory>
     Ok(Bytes::of(out))
 }
 
+/// A full name with the index of a key behind it.
 fn with_index(alloc: Global, full: &[u8], key: &Key) -> Result<Bytes, Memory>
     ensures { IfOk result (λ n. n ≡ full.now ++ index_of key.now) }
 {

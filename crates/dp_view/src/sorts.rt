@@ -22,6 +22,7 @@ pub(crate) fn is_start(b: u8) -> bool
     (b'a' <= b && b <= b'z') || (b'A' <= b && b <= b'Z') || b == b'_' || 0x80 <= b
 }
 
+/// Whether the byte is a decimal digit.
 fn is_digit(b: u8) -> bool
     ensures { result ≡ bytes_of.is_digit b }
 {
@@ -29,6 +30,7 @@ fn is_digit(b: u8) -> bool
 }
 
 impl Sort {
+    /// Whether the byte is of this sort.
     fn has(self, b: u8) -> bool
         ensures { result ≡ test_of self b }
     {
@@ -39,6 +41,7 @@ impl Sort {
     }
 }
 
+/// How many bytes of a sort stand at the front.
 fn run_len(sort: Sort, bytes: &[u8]) -> usize
     ensures value { result ≡ prefix_len (test_of sort) bytes.now }
     ensures within { result ≤ length bytes.now }

@@ -29,6 +29,7 @@ fn behind(b: u8, bytes: &[u8]) -> Option<&[u8]>
     }
 }
 
+/// The bytes without the `$` at the front, if there is one.
 fn without_dollar(bytes: &[u8]) -> &[u8]
     ensures { result.now ≡ spec.without_dollar bytes.now }
 {
@@ -67,6 +68,7 @@ fn pair(quote: u8, c: u8) -> Option<u8>
     }
 }
 
+/// The byte of the pair whose backslash stands before these bytes, and what stands behind the pair.
 fn pair_byte(quote: u8, bytes: &[u8]) -> Option<(Option<u8>, &[u8])>
     ensures { option_map (λ found. (found.0, found.1.now)) result ≡ spec.pair_at quote bytes.now }
 {

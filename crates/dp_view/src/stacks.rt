@@ -13,6 +13,7 @@ use dp_tree::Bundle;
 use dp_value::{Bytes, Items};
 use std::alloc::Global;
 
+/// Where a frame is: `{main}`, the function's name as declared, or `include`.
 fn place(alloc: Global, kind: &FrameKind) -> Result<Bytes, Memory>
     ensures { IfOk result (λ p. p ≡ spec.place_of kind.now) }
 {
@@ -23,6 +24,7 @@ fn place(alloc: Global, kind: &FrameKind) -> Result<Bytes, Memory>
     }
 }
 
+/// The name of the file of this number in a bundle; nothing where there is no such file.
 fn file_name(bundle: &Bundle, file: u32) -> &[u8]
     ensures { result.now ≡ spec.file_name bundle.now file }
 {

@@ -49,6 +49,7 @@ fn of_text(alloc: Global, size: usize) -> Result<Vec<(Bytes, Bytes)>, Memory>
     Ok(attributes)
 }
 
+/// The attributes of a value: its type, and of a text its whole length and its encoding.
 fn attributes_of(alloc: Global, value: &Value) -> Result<Vec<(Bytes, Bytes)>, Memory>
     ensures { IfOk result (λ attributes. attributes.items ≡ spec.attributes_of (data_of value.now)) }
 {
@@ -79,6 +80,7 @@ fn base64_of(alloc: Global, bytes: &[u8]) -> Result<Bytes, Memory>
     Ok(Bytes::of(text.into_bytes()))
 }
 
+/// An integer in decimal.
 fn int_text(alloc: Global, n: i64) -> Result<Bytes, Memory>
     ensures { IfOk result (λ text. text ≡ signed_decimal n) }
 {
@@ -86,12 +88,14 @@ fn int_text(alloc: Global, n: i64) -> Result<Bytes, Memory>
     Bytes::from_slice(alloc, buffer.format(n).as_bytes())
 }
 
+/// `1` if it holds, else `0`.
 fn flag(b: bool) -> &'static [u8]
     ensures { result.now ≡ flag_text b }
 {
     if b { b"1" } else { b"0" }
 }
 
+/// The value as text, of a text its first bytes in base64, at most so many or all, and nothing of an array.
 fn text_of(alloc: Global, value: &Value, most: Option<u64>) -> Result<Bytes, Memory>
     ensures { IfOk result (λ text. text ≡ spec.text_of most (data_of value.now)) }
 {

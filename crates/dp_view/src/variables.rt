@@ -31,6 +31,7 @@ fn named(alloc: Global, name: &[u8], id: u32) -> Result<(Bytes, u32), Memory>
     Ok((Bytes::from_slice(alloc, name)?, id))
 }
 
+/// The contexts by their names and ids: `Locals` with 0, and `Globals` with 1.
 fn all_contexts(alloc: Global) -> Result<Items<(Bytes, u32)>, Memory>
     ensures { IfOk result (λ all. all ≡ places.contexts) }
 {
@@ -79,6 +80,7 @@ fn put_variable(
     Ok(())
 }
 
+/// The properties of the variables that have a value, in the order of the variables.
 fn all_variables(
     alloc: Global,
     p: &Paging,

@@ -56,6 +56,7 @@ fn source_text<'b>(
     }
 }
 
+/// Whether a line is given and is 0.
 fn is_zero(line: Option<u32>) -> bool
     ensures { result ≡ spec.is_zero line }
 {

@@ -23,6 +23,7 @@ pub(crate) fn is_file_name(name: &[u8]) -> bool
     are_no_nul(name)
 }
 
+/// Whether no byte is NUL.
 fn are_no_nul(name: &[u8]) -> bool
     ensures { result ≡ has_no_nul name.now }
 {

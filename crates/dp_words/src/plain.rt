@@ -14,6 +14,7 @@ fn is_plain(word: &str) -> bool
     !word.is_empty() && !is_option(word.as_bytes())
 }
 
+/// Whether no word is empty or asks for an option.
 fn all_plain(words: &[String]) -> bool
     ensures { result ≡ list_all (λ word. spec.is_plain (string_bytes word)) words.now }
 {

@@ -24,6 +24,7 @@ pub(crate) enum Given {
     Other(Value),
 }
 
+/// The value of type `bool` that bytes spell: false for `0`, true for `1`, else none.
 fn bool_in(bytes: &[u8]) -> Option<Given>
     ensures { option_map (value_of_given bytes.now) result ≡ spec.bool_in bytes.now }
 {
@@ -36,6 +37,7 @@ fn bool_in(bytes: &[u8]) -> Option<Given>
     None
 }
 
+/// The value of type `int` that bytes spell, if they spell one.
 fn int_in(bytes: &[u8]) -> Option<Given>
     ensures { option_map (value_of_given bytes.now) result ≡ spec.int_in bytes.now }
 {
@@ -45,6 +47,7 @@ fn int_in(bytes: &[u8]) -> Option<Given>
     }
 }
 
+/// The value of type `null`, if there are no bytes.
 fn null_in(bytes: &[u8]) -> Option<Given>
     ensures { option_map (value_of_given bytes.now) result ≡ spec.null_in bytes.now }
 {
@@ -115,6 +118,7 @@ pub(crate) fn value_of(alloc: Global, given: Given, bytes: &[u8]) -> Result<Valu
     }
 }
 
+/// The path, if a program may name its variable; else the code 300.
 fn unreserved(path: Path) -> Result<Path, ViewError>
     ensures { Finds result (spec.unreserved path) }
 {
