@@ -57,6 +57,7 @@ impl Command {
     }
 }
 
+/// The typed command of this name that a line is: its transaction id and its request.
 fn command_as(alloc: Global, line: &Line, name: CommandName) -> Result<Command, CommandError>
     ensures { MatchResult result
         (λ command. command ≡ spec.command_as line.now name) (λ e. e ≡ CommandError.Memory) }
@@ -66,6 +67,7 @@ fn command_as(alloc: Global, line: &Line, name: CommandName) -> Result<Command, 
     Ok(Command { id, request })
 }
 
+/// The request of the command of this name that a line is.
 #[tactic(auto, unfolding(crate::specs::Commands::request_of))]
 fn request_of(alloc: Global, name: CommandName, line: &Line) -> Result<Request, Memory>
     ensures { IfOk result (λ request. request ≡ spec.request_of name line.now) }
@@ -105,6 +107,7 @@ fn request_of(alloc: Global, name: CommandName, line: &Line) -> Result<Request, 
     }
 }
 
+/// The request of `feature_get`: the name in `-n`.
 #[tactic(auto, unfolding(crate::specs::Commands::request_of))]
 fn feature_get(alloc: Global, line: &Line) -> Result<Request, Memory>
     ensures { IfOk result (λ r. r ≡ spec.request_of CommandName.FeatureGet line.now) }
@@ -113,6 +116,7 @@ fn feature_get(alloc: Global, line: &Line) -> Result<Request, Memory>
     Ok(Request::Session(SessionRequest::FeatureGet { name }))
 }
 
+/// The request of `feature_set`: the name in `-n` and the value in `-v`.
 #[tactic(auto, unfolding(crate::specs::Commands::request_of))]
 fn feature_set(alloc: Global, line: &Line) -> Result<Request, Memory>
     ensures { IfOk result (λ r. r ≡ spec.request_of CommandName.FeatureSet line.now) }
@@ -123,6 +127,7 @@ fn feature_set(alloc: Global, line: &Line) -> Result<Request, Memory>
     Ok(Request::Session(SessionRequest::FeatureSet { name, value }))
 }
 
+/// The request of `breakpoint_set`: what its options give, and the payload as its expression.
 fn breakpoint_set(alloc: Global, line: &Line) -> Result<Request, Memory>
     ensures { IfOk result (λ r. r ≡ spec.breakpoint_set line.now) }
 {
@@ -141,6 +146,7 @@ fn breakpoint_set(alloc: Global, line: &Line) -> Result<Request, Memory>
     })))
 }
 
+/// A copy of the payload of a line, where it has one.
 fn payload_of(line: &Line) -> Result<Option<Bytes>, Memory>
     ensures { IfOk result (λ payload. payload ≡ line.now.payload) }
 {
@@ -150,6 +156,7 @@ fn payload_of(line: &Line) -> Result<Option<Bytes>, Memory>
     }
 }
 
+/// A copy of the payload of a line, empty where it has none.
 fn payload_text(alloc: Global, line: &Line) -> Result<Bytes, Memory>
     ensures { IfOk result (λ text. text ≡ unwrap_or line.now.payload []) }
 {
@@ -159,6 +166,7 @@ fn payload_text(alloc: Global, line: &Line) -> Result<Bytes, Memory>
     }
 }
 
+/// The request to act so on the breakpoint whose id stands in `-d`.
 fn breakpoint(action: BreakpointAction, line: &Line) -> Request
     ensures { result
         ≡ Request.Breakpoints (BreakpointRequest.One action (number_or_zero letter.d line.now.options)) }
@@ -167,6 +175,7 @@ fn breakpoint(action: BreakpointAction, line: &Line) -> Request
     Request::Breakpoints(BreakpointRequest::One { action, id })
 }
 
+/// The request of `breakpoint_update`: the id in `-d`, and what is given to be changed.
 fn breakpoint_update(alloc: Global, line: &Line) -> Result<Request, Memory>
     ensures { IfOk result (λ r. r ≡ spec.breakpoint_update line.now.options) }
 {
@@ -180,6 +189,7 @@ fn breakpoint_update(alloc: Global, line: &Line) -> Result<Request, Memory>
     })))
 }
 
+/// The request of `stack_get`: the level in `-d`, where one is given.
 #[tactic(auto, unfolding(crate::specs::Commands::request_of))]
 fn stack_get(line: &Line) -> Request
     ensures { result ≡ spec.request_of CommandName.StackGet line.now }
@@ -188,6 +198,7 @@ fn stack_get(line: &Line) -> Request
     Request::Look(LookRequest::StackGet { level })
 }
 
+/// The request of `context_get`: the level in `-d` and the context in `-c`, each 0 where it is not given.
 #[tactic(auto, unfolding(crate::specs::Commands::request_of))]
 fn context_get(line: &Line) -> Request
     ensures { result ≡ spec.request_of CommandName.ContextGet line.now }
@@ -199,6 +210,7 @@ fn context_get(line: &Line) -> Request
     })
 }
 
+/// The property that a line names: the name in `-n`, the level in `-d` and the context in `-c`, 0 where not given.
 fn place_of(alloc: Global, line: &Line) -> Result<PropertyPlace, Memory>
     ensures { IfOk result (λ place. place ≡ spec.place_of line.now.options) }
 {
@@ -210,6 +222,7 @@ fn place_of(alloc: Global, line: &Line) -> Result<PropertyPlace, Memory>
     })
 }
 
+/// The request of `property_get`: the property, the page in `-p`, and the limit of data in `-m`.
 #[tactic(auto, unfolding(crate::specs::Commands::request_of))]
 fn property_get(alloc: Global, line: &Line) -> Result<Request, Memory>
     ensures { IfOk result (λ r. r ≡ spec.request_of CommandName.PropertyGet line.now) }
@@ -223,6 +236,7 @@ fn property_get(alloc: Global, line: &Line) -> Result<Request, Memory>
     }))
 }
 
+/// The request of `property_value`: the property, and the limit of data in `-m`.
 #[tactic(auto, unfolding(crate::specs::Commands::request_of))]
 fn property_value(alloc: Global, line: &Line) -> Result<Request, Memory>
     ensures { IfOk result (λ r. r ≡ spec.request_of CommandName.PropertyValue line.now) }
@@ -232,6 +246,7 @@ fn property_value(alloc: Global, line: &Line) -> Result<Request, Memory>
     Ok(Request::Look(LookRequest::PropertyValue { place, max_data }))
 }
 
+/// The request of `property_set`: the property, the type in `-t`, the length in `-l`, and the payload as value.
 fn property_set(alloc: Global, line: &Line) -> Result<Request, Memory>
     ensures { IfOk result (λ r. r ≡ spec.property_set line.now) }
 {
@@ -244,6 +259,7 @@ fn property_set(alloc: Global, line: &Line) -> Result<Request, Memory>
     })))
 }
 
+/// The request of `source`: the file in `-f`, and the first and the last line in `-b` and `-e`.
 fn source(alloc: Global, line: &Line) -> Result<Request, Memory>
     ensures { IfOk result (λ r. r ≡ spec.source line.now.options) }
 {
@@ -255,6 +271,7 @@ fn source(alloc: Global, line: &Line) -> Result<Request, Memory>
     })))
 }
 
+/// The request of `stdout` or `stderr`: the stream, and the mode in `-c`.
 fn redirect(stream: Stream, line: &Line) -> Request
     ensures { result
         ≡ Request.Session (SessionRequest.Redirect stream (mode_given letter.c line.now.options)) }
@@ -263,6 +280,7 @@ fn redirect(stream: Stream, line: &Line) -> Request
     Request::Session(SessionRequest::Redirect { stream, mode })
 }
 
+/// The request of `eval`: the payload as its expression.
 #[tactic(auto, unfolding(crate::specs::Commands::request_of))]
 fn eval(alloc: Global, line: &Line) -> Result<Request, Memory>
     ensures { IfOk result (λ r. r ≡ spec.request_of CommandName.Eval line.now) }

@@ -30,6 +30,7 @@ fn parts(
     Ok((Bytes::from_slice(alloc, name)?, options, text))
 }
 
+/// Reads the line that the bytes spell, its payload decoded; refuses bytes that spell none.
 #[tactic(auto, unfolding(crate::specs::Lines::line_of))]
 fn line(alloc: Global, bytes: &[u8]) -> Result<Line, LineError>
     ensures { Gives (λ line. line) result (line_of bytes.now) }

@@ -27,6 +27,7 @@ pub fn write_line(alloc: Global, line: &Line) -> Result<Bytes, Memory>
     Ok(Bytes::of(out))
 }
 
+/// Puts the options in canonical form, in their order.
 fn write_options(out: &mut Vec<u8>, options: &[(u8, Bytes)]) -> Result<(), Memory>
     ensures { OnOk result (out.new.items ≡ out.old.items ++ flat_map canonical_option options.now) }
 {
@@ -36,6 +37,7 @@ fn write_options(out: &mut Vec<u8>, options: &[(u8, Bytes)]) -> Result<(), Memor
     Ok(())
 }
 
+/// Puts an option in canonical form: a space, a dash, its letter, a space and its value.
 fn write_option(out: &mut Vec<u8>, letter: u8, value: &[u8]) -> Result<(), Memory>
     ensures { OnOk result (out.new.items ≡ out.old.items ++ canonical_option (letter, value.now)) }
 {
@@ -43,12 +45,14 @@ fn write_option(out: &mut Vec<u8>, letter: u8, value: &[u8]) -> Result<(), Memor
     write_value(out, value)
 }
 
+/// Whether a value is written in quotes: it is empty or holds a space, NUL or a quote.
 fn needs_quotes(value: &[u8]) -> bool
     ensures { result ≡ spec.needs_quotes value.now }
 {
     value.is_empty() || !all_bare(value)
 }
 
+/// Whether no byte of a value is a space, NUL or a quote.
 fn all_bare(value: &[u8]) -> bool
     ensures { result ≡ spec.all_bare value.now }
 {
@@ -60,6 +64,7 @@ fn all_bare(value: &[u8]) -> bool
     true
 }
 
+/// Puts a value in canonical form, in quotes only where it needs them.
 fn write_value(out: &mut Vec<u8>, value: &[u8]) -> Result<(), Memory>
     ensures { OnOk result (out.new.items ≡ out.old.items ++ canonical_value value.now) }
 {
@@ -70,6 +75,7 @@ fn write_value(out: &mut Vec<u8>, value: &[u8]) -> Result<(), Memory>
     }
 }
 
+/// Puts a value between quotes, with escapes for the bytes that need them.
 fn write_quoted(out: &mut Vec<u8>, value: &[u8]) -> Result<(), Memory>
     ensures { OnOk result (out.new.items ≡ out.old.items ++ quoted value.now) }
 {
@@ -79,6 +85,7 @@ fn write_quoted(out: &mut Vec<u8>, value: &[u8]) -> Result<(), Memory>
     Ok(())
 }
 
+/// Puts a payload in canonical form: ` -- ` and its base64.
 fn write_payload(alloc: Global, out: &mut Vec<u8>, payload: &[u8]) -> Result<(), Memory>
     ensures { OnOk result (out.new.items ≡ out.old.items ++ canonical_payload (Some payload.now)) }
 {

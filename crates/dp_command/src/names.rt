@@ -63,6 +63,7 @@ const EVERY: [CommandName; 25] = [
     CommandName::Eval,
 ];
 
+/// The first of these commands whose name the text is.
 fn first_of(names: &[CommandName], text: &[u8]) -> Option<CommandName>
     ensures { result ≡ find (λ n. bytes_eq (spec.text_of n) text.now) names.now }
 {

@@ -21,6 +21,7 @@ pub fn option_value(options: &[(u8, Bytes)], letter: u8) -> Option<&[u8]>
     None
 }
 
+/// Whether an option of this letter is given.
 pub(crate) fn is_given(options: &[(u8, Bytes)], letter: u8) -> bool
     ensures { result ≡ spec.is_given letter options.now }
 {
@@ -68,6 +69,7 @@ pub(crate) fn text_given(
     }
 }
 
+/// The number that the first option of a letter gives; none where it is not given or no number.
 pub(crate) fn number_given(options: &[(u8, Bytes)], letter: u8) -> Option<u32>
     ensures { result ≡ spec.number_given letter options.now }
 {
@@ -77,12 +79,14 @@ pub(crate) fn number_given(options: &[(u8, Bytes)], letter: u8) -> Option<u32>
     }
 }
 
+/// The number that the first option of a letter gives, or 0 where it gives none.
 pub(crate) fn number_or_zero(options: &[(u8, Bytes)], letter: u8) -> u32
     ensures { result ≡ spec.number_or_zero letter options.now }
 {
     number_given(options, letter).unwrap_or(0)
 }
 
+/// The mode of a stream that `0`, `1` or `2` names; none for any other value.
 pub(crate) fn mode_of(value: &[u8]) -> Option<StreamMode>
     ensures { result ≡ spec.mode_of value.now }
 {
@@ -94,6 +98,7 @@ pub(crate) fn mode_of(value: &[u8]) -> Option<StreamMode>
     }
 }
 
+/// The mode of a stream that the first option of a letter gives, or `Disable` where it gives none.
 pub(crate) fn mode_given(options: &[(u8, Bytes)], letter: u8) -> StreamMode
     ensures { result ≡ spec.mode_given letter options.now }
 {

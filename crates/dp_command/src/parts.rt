@@ -22,6 +22,7 @@ pub(crate) fn spaces(bytes: &[u8]) -> Result<&[u8], LineError>
     }
 }
 
+/// Reads the name of a command, and what stands behind it; refuses an empty name and one of more than 64 bytes.
 #[tactic(auto, unfolding(crate::specs::inner::Parts::name_at))]
 pub(crate) fn name(bytes: &[u8]) -> Result<(&[u8], &[u8]), LineError>
     ensures { Gives (λ found. (found.0.now, found.1.now)) result (name_at bytes.now) }
@@ -33,6 +34,7 @@ pub(crate) fn name(bytes: &[u8]) -> Result<(&[u8], &[u8]), LineError>
     Ok((name, rest))
 }
 
+/// The letter behind a dash at the front, and what stands behind it.
 fn dashed_letter(bytes: &[u8]) -> Option<(u8, &[u8])>
     ensures { MatchOption result (letter_of bytes.now ≡ None)
         (λ found. letter_of bytes.now ≡ Some (found.0, found.1.now)) }

@@ -27,12 +27,14 @@ pub fn id_of(line: &Line) -> &[u8]
     }
 }
 
+/// Whether a value is a transaction id: 1 to 64 bytes from 0x21 to 0x7e.
 fn is_id(value: &[u8]) -> bool
     ensures { result ≡ spec.is_id value.now }
 {
     1 <= value.len() && value.len() <= ID_LIMIT && all_visible(value)
 }
 
+/// Whether each byte of a value is from 0x21 to 0x7e.
 fn all_visible(value: &[u8]) -> bool
     ensures { result ≡ list_all spec.is_visible value.now }
 {
@@ -76,6 +78,7 @@ pub fn fits_row(name: CommandName, line: &Line) -> bool
         && takes_payload(payload_of(name), &line.payload)
 }
 
+/// Whether each option is `-i` or one that a slot of the row accepts.
 fn all_accepted(slots: &[Slot], options: &[(u8, Bytes)]) -> bool
     ensures { result ≡ list_all (spec.is_accepted slots.now) options.now }
 {
@@ -87,12 +90,14 @@ fn all_accepted(slots: &[Slot], options: &[(u8, Bytes)]) -> bool
     true
 }
 
+/// Whether an option is `-i` or one that a slot of the row accepts.
 fn is_accepted(slots: &[Slot], letter: u8, value: &[u8]) -> bool
     ensures { result ≡ spec.is_accepted slots.now (letter, value.now) }
 {
     letter == b'i' || any_accepts(slots, letter, value)
 }
 
+/// Whether a slot of the row accepts the option of this letter and value.
 fn any_accepts(slots: &[Slot], letter: u8, value: &[u8]) -> bool
     ensures { result ≡ list_any (spec.accepts (letter, value.now)) slots.now }
 {
@@ -104,6 +109,7 @@ fn any_accepts(slots: &[Slot], letter: u8, value: &[u8]) -> bool
     false
 }
 
+/// Whether an option has the letter of the slot, and a value of its kind.
 fn accepts(slot: Slot, letter: u8, value: &[u8]) -> bool
     ensures { result ≡ spec.accepts (letter, value.now) slot }
 {
@@ -114,6 +120,7 @@ fn accepts(slot: Slot, letter: u8, value: &[u8]) -> bool
     }
 }
 
+/// Whether a value is of this kind: any text, a number, or the mode of a stream.
 fn has_kind(kind: Kind, value: &[u8]) -> bool
     ensures { result ≡ spec.has_kind kind value.now }
 {
@@ -124,6 +131,7 @@ fn has_kind(kind: Kind, value: &[u8]) -> bool
     }
 }
 
+/// Whether each slot of the row that is required has its option.
 fn all_met(options: &[(u8, Bytes)], slots: &[Slot]) -> bool
     ensures { result ≡ list_all (spec.is_met options.now) slots.now }
 {
@@ -135,6 +143,7 @@ fn all_met(options: &[(u8, Bytes)], slots: &[Slot]) -> bool
     true
 }
 
+/// Whether the slot is optional, or an option of its letter is given.
 fn is_met(options: &[(u8, Bytes)], slot: Slot) -> bool
     ensures { result ≡ spec.is_met options.now slot }
 {
@@ -144,6 +153,7 @@ fn is_met(options: &[(u8, Bytes)], slot: Slot) -> bool
     }
 }
 
+/// Whether the payload stands there where it is required, and is missing where there never is one.
 fn takes_payload(presence: Presence, payload: &Option<Bytes>) -> bool
     ensures { result ≡ spec.takes_payload presence payload.now }
 {

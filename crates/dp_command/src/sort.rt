@@ -19,6 +19,7 @@ pub(crate) enum Sort {
 }
 
 impl Sort {
+    /// Whether a byte is of this sort.
     pub(crate) fn has(self, b: u8) -> bool
         ensures { result ≡ test_of self b }
     {
@@ -31,12 +32,14 @@ impl Sort {
     }
 }
 
+/// Whether a byte is a letter of ASCII, of either case.
 pub(crate) fn is_letter(b: u8) -> bool
     ensures { result ≡ sorts.is_letter b }
 {
     (b'a' <= b && b <= b'z') || (b'A' <= b && b <= b'Z')
 }
 
+/// How many bytes of a sort stand at the front.
 fn run_len(sort: Sort, bytes: &[u8]) -> usize
     ensures value { result ≡ prefix_len (test_of sort) bytes.now }
     ensures within { result ≤ length bytes.now }

@@ -30,6 +30,7 @@ fn byte(bytes: &[u8]) -> Result<(Option<u8>, &[u8]), LineError>
     }
 }
 
+/// Reads what stands between quotes, up to the closing quote or the end; refuses NUL and a bad escape.
 fn inner(alloc: Global, bytes: &[u8]) -> Result<(Vec<u8>, &[u8]), LineError>
     ensures { Gives (λ found. (found.0.items, found.1.now)) result (items_at byte_at (length bytes.now) bytes.now) }
 {
@@ -58,6 +59,7 @@ fn quoted(alloc: Global, bytes: &[u8]) -> Result<(Bytes, &[u8]), LineError>
     }
 }
 
+/// Reads a value without quotes, and what stands behind it; refuses where none stands here.
 #[tactic(auto, unfolding(crate::specs::inner::Parts::bare_at))]
 fn bare(alloc: Global, bytes: &[u8]) -> Result<(Bytes, &[u8]), LineError>
     ensures { Gives (λ found. (found.0, found.1.now)) result (bare_at bytes.now) }
@@ -71,6 +73,7 @@ fn bare(alloc: Global, bytes: &[u8]) -> Result<(Bytes, &[u8]), LineError>
     }
 }
 
+/// Reads a value, in quotes or without, and what stands behind it; refuses where none stands here.
 #[tactic(auto, unfolding(crate::specs::inner::Parts::value_at))]
 fn value(alloc: Global, bytes: &[u8]) -> Result<(Bytes, &[u8]), LineError>
     ensures { Gives (λ found. (found.0, found.1.now)) result (value_at bytes.now) }
@@ -93,6 +96,7 @@ fn option(alloc: Global, bytes: &[u8]) -> Result<(Option<(u8, Bytes)>, &[u8]), L
     Ok((Some((letter, value)), rest))
 }
 
+/// Reads the options that stand here, and what stands behind them; refuses a letter without a value.
 fn given(alloc: Global, bytes: &[u8]) -> Result<(Vec<(u8, Bytes)>, &[u8]), LineError>
     ensures { Gives (λ found. (found.0.items, found.1.now)) result (items_at option_at (length bytes.now) bytes.now) }
 {
@@ -109,6 +113,7 @@ fn given(alloc: Global, bytes: &[u8]) -> Result<(Vec<(u8, Bytes)>, &[u8]), LineE
     Ok((options, rest))
 }
 
+/// Reads the options that stand here as a list, and what stands behind them; refuses a letter without a value.
 #[tactic(auto, unfolding(crate::specs::inner::Parts::options_at))]
 pub(crate) fn options(alloc: Global, bytes: &[u8]) -> Result<(Items<(u8, Bytes)>, &[u8]), LineError>
     ensures { Gives (λ found. (found.0, found.1.now)) result (options_at bytes.now) }

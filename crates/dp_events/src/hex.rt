@@ -5,6 +5,7 @@ ghost use Rattle.dp_events.specs.inner.Spelling as spec;
 use dp_value::Memory;
 use std::alloc::Global;
 
+/// The number of a hexadecimal digit, `0` to `9` or `a` to `f`; none for any other byte.
 fn nibble(digit: u8) -> Option<u8>
     ensures { result ≡ spec.nibble digit }
 {
@@ -15,6 +16,7 @@ fn nibble(digit: u8) -> Option<u8>
     }
 }
 
+/// The byte that two hexadecimal digits spell; none where one of them is no such digit.
 fn byte_in(high: u8, low: u8) -> Option<u8>
     ensures { result ≡ spec.byte_in high low }
 {
@@ -33,6 +35,7 @@ fn first_pair(part: &[u8]) -> Option<(u8, u8, &[u8])>
     }
 }
 
+/// The bytes that pairs of hexadecimal digits spell; none where a pair spells no byte or a digit is left over.
 fn pairs(alloc: Global, part: &[u8]) -> Result<Option<Vec<u8>>, Memory>
     ensures { IfOk result (λ bytes. option_map (λ v. v.items) bytes ≡ spec.pairs part.now) }
 {

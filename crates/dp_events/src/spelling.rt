@@ -38,6 +38,7 @@ fn first_word(bytes: &[u8]) -> (&[u8], Option<&[u8]>)
     }
 }
 
+/// The number of a link, from 1 to 4,294,967,294, that a text spells.
 fn link_in(text: &[u8]) -> Option<u32>
     ensures { result ≡ spec.link_in text.now }
 {
@@ -45,6 +46,7 @@ fn link_in(text: &[u8]) -> Option<u32>
     if link == 0 { None } else { Some(link as u32) }
 }
 
+/// The act that a word without a part spells: `close`, or `say`, which gives a NUL alone.
 fn act_alone(alloc: Global, word: &[u8]) -> Result<Option<Act>, Memory>
     ensures { IfOk result (λ act. act ≡ spec.act_alone word.now) }
 {
@@ -57,6 +59,7 @@ fn act_alone(alloc: Global, word: &[u8]) -> Result<Option<Act>, Memory>
     }
 }
 
+/// The act of an IDE that comes from the host of this name; none where the part is no such name.
 fn ide(alloc: Global, part: &[u8]) -> Result<Option<Act>, Memory>
     ensures { IfOk result (λ act. act ≡ spec.name_in host_limit Act.Ide part.now) }
 {
@@ -67,6 +70,7 @@ fn ide(alloc: Global, part: &[u8]) -> Result<Option<Act>, Memory>
     }
 }
 
+/// The act of an engine that comes with this key; none where the part is no key.
 fn engine(alloc: Global, part: &[u8]) -> Result<Option<Act>, Memory>
     ensures { IfOk result (λ act. act ≡ spec.name_in key_limit Act.Engine part.now) }
 {
@@ -77,6 +81,7 @@ fn engine(alloc: Global, part: &[u8]) -> Result<Option<Act>, Memory>
     }
 }
 
+/// The act that gives the bytes that the part spells in hexadecimal; none where it spells none.
 fn give(alloc: Global, part: &[u8]) -> Result<Option<Act>, Memory>
     ensures { IfOk result (λ act. act ≡ option_map Act.Give (spec.bytes_in part.now)) }
 {
@@ -86,6 +91,7 @@ fn give(alloc: Global, part: &[u8]) -> Result<Option<Act>, Memory>
     }
 }
 
+/// The act that gives the part as it stands, and a NUL behind it.
 fn say(alloc: Global, part: &[u8]) -> Result<Act, Memory>
     ensures { IfOk result (λ act. act ≡ Act.Give (part.now ++ 0 ∷ [])) }
 {
@@ -94,6 +100,7 @@ fn say(alloc: Global, part: &[u8]) -> Result<Act, Memory>
     Ok(Act::Give(Bytes::of(bytes)))
 }
 
+/// The act `move` of a count of 32 bits; none where the part spells no such count.
 fn read_of(part: &[u8]) -> Option<Act>
     ensures { result ≡ option_map Act.Move (decimal_in spec.greatest_count part.now) }
 {
@@ -103,6 +110,7 @@ fn read_of(part: &[u8]) -> Option<Act>
     }
 }
 
+/// The act that a word and its part spell, if they spell one.
 fn act_with(alloc: Global, word: &[u8], part: &[u8]) -> Result<Option<Act>, Memory>
     ensures { IfOk result (λ act. act ≡ spec.act_with word.now part.now) }
 {
@@ -121,6 +129,7 @@ fn act_with(alloc: Global, word: &[u8], part: &[u8]) -> Result<Option<Act>, Memo
     }
 }
 
+/// The act that a word, with its part where it has one, spells, if it spells one.
 fn act_in(alloc: Global, word: &[u8], part: Option<&[u8]>) -> Result<Option<Act>, Memory>
     ensures { IfOk result (λ act. act ≡ spec.act_in word.now (option_copied part.entry)) }
 {
@@ -130,6 +139,7 @@ fn act_in(alloc: Global, word: &[u8], part: Option<&[u8]>) -> Result<Option<Act>
     }
 }
 
+/// The event that a word spells with the link and the part behind it, if it spells one.
 fn event_in(alloc: Global, word: &[u8], rest: &[u8]) -> Result<Option<Event>, Memory>
     ensures { IfOk result (λ event. event ≡ spec.event_in word.now rest.now) }
 {

@@ -50,6 +50,7 @@ const EVERY: [Feature; 16] = [
     Feature::SupportsPostmortem,
 ];
 
+/// The first of these features that has this name.
 fn first_of(features: &[Feature], name: &[u8]) -> Option<Feature>
     ensures { result ≡ find (λ feature. bytes_eq (spec.name_of feature) name.now) features.now }
 {

@@ -17,30 +17,35 @@ pub(crate) enum Class {
     Other,
 }
 
+/// Whether the byte is white space: a space, a tab, a line feed or a carriage return.
 pub(crate) fn is_space(b: u8) -> bool
     ensures { result ≡ sorts.is_space b }
 {
     b == b' ' || b == b'\t' || b == b'\n' || b == b'\r'
 }
 
+/// Whether the byte is a decimal digit.
 pub(crate) fn is_digit(b: u8) -> bool
     ensures { result ≡ sorts.is_digit b }
 {
     b >= b'0' && b <= b'9'
 }
 
+/// Whether the byte is an octal digit.
 pub(crate) fn is_octal(b: u8) -> bool
     ensures { result ≡ sorts.is_octal b }
 {
     b >= b'0' && b <= b'7'
 }
 
+/// Whether the byte is a hexadecimal digit, of either case.
 pub(crate) fn is_hexadecimal(b: u8) -> bool
     ensures { result ≡ sorts.is_hexadecimal b }
 {
     is_digit(b) || (b >= b'a' && b <= b'f') || (b >= b'A' && b <= b'F')
 }
 
+/// Whether the byte is a letter of ASCII, of either case.
 pub(crate) fn is_letter(b: u8) -> bool
     ensures { result ≡ sorts.is_letter b }
 {
@@ -68,6 +73,7 @@ pub(crate) fn runs_on(b: u8) -> bool
     is_digit(b) || is_letter(b) || b == b'_' || b == b'.'
 }
 
+/// The class of the byte: what it may begin.
 pub(crate) fn class_of(b: u8) -> Class
     ensures { result ≡ spec.class_of b }
 {

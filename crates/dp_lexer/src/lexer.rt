@@ -31,6 +31,7 @@ pub fn line_feeds(bytes: &[u8]) -> usize
     n
 }
 
+/// Puts the token of this kind, if there is one, behind the others, with where it stands and its line.
 fn push_token(
     tokens: &mut Vec<Token>,
     kind: Option<TokenKind>,
@@ -53,6 +54,7 @@ fn push_token(
     Ok(())
 }
 
+/// The error for what is wrong in a piece, where the piece starts at this offset.
 fn placed(wrong: Wrong, start: usize) -> LexError
     requires { IsPlacedWithin wrong start }
     ensures { result ≡ placed_at wrong start }

@@ -14,6 +14,7 @@ use std::alloc::Global;
 /// The most bytes that a name may have.
 pub const NAME_LIMIT: usize = 255;
 
+/// How many bytes of a name stand at the front.
 fn name_len(z: &[u8]) -> usize
     ensures value { result ≡ spec.name_len z.now }
     ensures within { result ≤ length z.now }

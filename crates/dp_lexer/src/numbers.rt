@@ -24,6 +24,7 @@ pub(crate) fn begins_hexadecimal(z: &[u8]) -> bool
     }
 }
 
+/// How many decimal digits stand at the front.
 fn digits_len(z: &[u8]) -> usize
     ensures value { result ≡ spec.digits_len z.now }
     ensures within { result ≤ length z.now }
@@ -35,6 +36,7 @@ fn digits_len(z: &[u8]) -> usize
     n
 }
 
+/// How many hexadecimal digits stand at the front.
 fn hexadecimal_len(z: &[u8]) -> usize
     ensures value { result ≡ spec.hexadecimal_len z.now }
     ensures within { result ≤ length z.now }
@@ -107,6 +109,7 @@ fn ended(
     }
 }
 
+/// Reads the hexadecimal number whose `0x` stands before these bytes; refuses one that is too wide or runs on.
 fn hexadecimal(z: &[u8]) -> Result<(Option<TokenKind>, usize), Wrong>
     requires { length z.now + 2 < 2 ^ 64 }
     ensures { Finds (spec.hexadecimal_number z.now) result }
@@ -116,6 +119,7 @@ fn hexadecimal(z: &[u8]) -> Result<(Option<TokenKind>, usize), Wrong>
     ended(16, digits, len + 2, rest)
 }
 
+/// Reads the decimal number that stands at the front; refuses one that is too wide or runs on.
 fn decimal(z: &[u8]) -> Result<(Option<TokenKind>, usize), Wrong>
     ensures { Finds (spec.decimal_number z.now) result }
 {

@@ -9,6 +9,7 @@ use crate::class::is_digit;
 use crate::fault::{Fault, Wrong};
 use crate::token::TokenKind;
 
+/// The operator that one byte spells.
 fn one_byte(b: u8) -> Option<TokenKind>
     ensures { result ≡ operators.one_byte b }
 {
@@ -36,6 +37,7 @@ fn one_byte(b: u8) -> Option<TokenKind>
     }
 }
 
+/// The operator that two bytes spell.
 fn two_bytes(b: u8, c: u8) -> Option<TokenKind>
     ensures { result ≡ operators.two_bytes b c }
 {
@@ -59,6 +61,7 @@ fn two_bytes(b: u8, c: u8) -> Option<TokenKind>
     }
 }
 
+/// The operator that three bytes spell.
 fn three_bytes(b: u8, c: u8, d: u8) -> Option<TokenKind>
     ensures { result ≡ operators.three_bytes b c d }
 {
@@ -81,6 +84,7 @@ fn is_split(b: u8, rest: &[u8]) -> bool
     }
 }
 
+/// Reads the operator of one byte; refuses any other byte, a point before a digit, and a `?` before `>`.
 fn single_operator(b: u8, rest: &[u8]) -> Result<(Option<TokenKind>, usize), Wrong>
     ensures { Finds (spec.single_operator (operators.one_byte b) b rest.now) result }
 {
@@ -90,6 +94,7 @@ fn single_operator(b: u8, rest: &[u8]) -> Result<(Option<TokenKind>, usize), Wro
     }
 }
 
+/// Reads the operator of two bytes, or else that of the first byte alone, which may be refused.
 fn double_operator(b: u8, c: u8, rest: &[u8]) -> Result<(Option<TokenKind>, usize), Wrong>
     ensures { Finds (spec.double_operator (operators.two_bytes b c) b rest.now) result }
 {

@@ -57,6 +57,7 @@ fn single_part(z: &[u8]) -> (u8, usize)
     }
 }
 
+/// The text that stands between single quotes, its escapes resolved.
 fn single(alloc: Global, body: &[u8]) -> Result<Spelling, AllocError>
     ensures { IfOk result (λ value. value ≡ quotes.single_value body.now) }
 {
@@ -72,6 +73,7 @@ fn single(alloc: Global, body: &[u8]) -> Result<Spelling, AllocError>
 
 // ---- double quotes
 
+/// The byte for which a backslash and this one byte stand, if they stand for one by themselves.
 fn letter_of(c: u8) -> Option<u8>
     ensures { result ≡ quotes.letter_of c }
 {
@@ -99,6 +101,7 @@ fn interpolates(b: u8, rest: &[u8]) -> bool
     }
 }
 
+/// How many octal digits stand at the front, of at most 3.
 fn octal_len(z: &[u8]) -> usize
     ensures value { result ≡ spec.up_to sorts.is_octal 3 z.now }
     ensures most { result ≤ 3 }
@@ -112,6 +115,7 @@ fn octal_len(z: &[u8]) -> usize
     }
 }
 
+/// How many hexadecimal digits stand at the front, of at most 2.
 fn hexadecimal_len(z: &[u8]) -> usize
     ensures value { result ≡ spec.up_to sorts.is_hexadecimal 2 z.now }
     ensures most { result ≤ 2 }
@@ -138,6 +142,7 @@ fn byte_of(base: u64, digits: &[u8]) -> u8
     }
 }
 
+/// The byte of the octal escape whose backslash stands before these bytes, and its length with the backslash.
 fn octal(z: &[u8]) -> (Meant, usize)
     ensures value { shown_meant (Some result) ≡ shown_part (spec.octal_at z.now) }
     ensures within { result.1 ≤ length z.now + 1 }
@@ -147,6 +152,7 @@ fn octal(z: &[u8]) -> (Meant, usize)
     (Meant::Byte(byte_of(8, &z[..len])), len + 1)
 }
 
+/// The byte of the escape whose `\x` stands before these bytes, and its length with the `\x`.
 fn hexadecimal(z: &[u8]) -> (Meant, usize)
     ensures value { shown_meant (Some result) ≡ shown_part (spec.hexadecimal_at z.now) }
     ensures within { result.1 ≤ length z.now + 2 }
@@ -194,6 +200,7 @@ fn part(z: &[u8]) -> Option<(Meant, usize)>
     }
 }
 
+/// Puts the bytes that a part of a text stands for.
 fn push_meant(bytes: &mut Vec<u8>, meant: Meant) -> Result<(), AllocError>
     ensures { OnOk result (bytes.new.items ≡ bytes.old.items ++ meant_bytes meant) }
 {
@@ -207,6 +214,7 @@ fn push_meant(bytes: &mut Vec<u8>, meant: Meant) -> Result<(), AllocError>
     Ok(())
 }
 
+/// Reads the text between double quotes; refuses `\u`, a variable to be put in, and a backslash at the end.
 fn double(alloc: Global, body: &[u8]) -> Result<Spelling, Wrong>
     ensures value { Decodes (spec.doubled 0 body.now) result }
     ensures within { IfErr result (λ wrong. IsFaultWithin wrong (length body.now)) }

@@ -21,6 +21,7 @@ pub fn same_text(a: &[u8], b: &[u8]) -> bool
     a == b
 }
 
+/// Reads the quote that ends a value, or one more byte of it; refuses anything else.
 #[tactic(auto, unfolding(crate::specs::inner::Readers::value_step))]
 fn value_step(
     input: &mut Input<'_>,
@@ -39,6 +40,7 @@ fn value_step(
     }
 }
 
+/// Reads a value behind its first quote, up to the next such quote.
 #[tactic(auto, unfolding(crate::specs::inner::Readers::quoted))]
 fn quoted(alloc: Global, input: &mut Input<'_>, quote: u8) -> Result<Growing<u8>, Refusal>
     ensures { Reads (spec.quoted quote input.old) result input.new }
@@ -46,6 +48,7 @@ fn quoted(alloc: Global, input: &mut Input<'_>, quote: u8) -> Result<Growing<u8>
     quoted_from(input, quote, Growing::new(alloc))
 }
 
+/// Reads the rest of a value, behind what was read of it, up to its quote.
 fn quoted_from(input: &mut Input<'_>, quote: u8, first: Growing<u8>) -> Result<Growing<u8>, Refusal>
     ensures { Reads (closed (spec.value_step quote) first input.old) result input.new }
 {
@@ -59,6 +62,7 @@ fn quoted_from(input: &mut Input<'_>, quote: u8, first: Growing<u8>) -> Result<G
     Err(input.refuse())
 }
 
+/// Reads a value between quotes of either kind; refuses where no quote comes next.
 #[tactic(auto, unfolding(crate::specs::inner::Readers::value))]
 fn value(alloc: Global, input: &mut Input<'_>) -> Result<Growing<u8>, Refusal>
     ensures { Reads (spec.value input.old) result input.new }
@@ -67,6 +71,7 @@ fn value(alloc: Global, input: &mut Input<'_>) -> Result<Growing<u8>, Refusal>
     quoted(alloc, input, quote)
 }
 
+/// Reads this byte, or one byte of white space before it; refuses anything else.
 #[tactic(auto, unfolding(crate::specs::inner::Readers::spaced_mark_step))]
 fn spaced_mark_step(input: &mut Input<'_>, byte: u8) -> Result<ControlFlow<u8, ()>, Refusal>
     ensures { Reads (spec.spaced_mark_step byte tt input.old) result input.new }
@@ -93,6 +98,7 @@ pub(crate) fn spaced_mark(input: &mut Input<'_>, byte: u8) -> Result<u8, Refusal
     Err(input.refuse())
 }
 
+/// Reads a value, or one byte of white space before it; refuses anything else.
 #[tactic(auto, unfolding(crate::specs::inner::Readers::spaced_value_step))]
 fn spaced_value_step(
     alloc: Global,
@@ -137,6 +143,7 @@ fn attribute(alloc: Global, input: &mut Input<'_>, mut found: Found) -> Result<F
     Ok(found)
 }
 
+/// Reads one byte of white space or an attribute in a start tag; refuses an attribute without white space before it.
 #[tactic(auto, unfolding(crate::specs::inner::Readers::tag_piece, crate::specs::inner::Input::refuse))]
 fn tag_piece(alloc: Global, input: &mut Input<'_>, tag: Tag) -> Result<Tag, Refusal>
     ensures { Reads (spec.tag_piece tag input.old) result input.new }
@@ -182,6 +189,7 @@ pub(crate) fn sees_end(input: &Input<'_>) -> bool
     input.sees(b'>') || input.sees(b'/')
 }
 
+/// Reads the rest of a start tag of this name, behind what was read of it, to its end.
 fn tag_from(
     alloc: Global,
     input: &mut Input<'_>,

@@ -30,6 +30,7 @@ fn declaration<'a>(input: &mut Input<'a>) -> Result<&'a [u8], Refusal>
     input.up_to(b"?>")
 }
 
+/// Reads a comment or the declaration behind its `<`, or ends at the root; refuses a declaration not at the front.
 #[tactic(auto, unfolding(crate::specs::inner::Readers::prolog_bracket, crate::specs::inner::Input::refuse))]
 fn prolog_bracket(input: &mut Input<'_>, at_first: bool) -> Result<ControlFlow<u8, bool>, Refusal>
     ensures { Reads (spec.prolog_bracket at_first input.old) result input.new }
@@ -50,6 +51,7 @@ fn prolog_bracket(input: &mut Input<'_>, at_first: bool) -> Result<ControlFlow<u
     Ok(ControlFlow::Continue(false))
 }
 
+/// Reads one byte of white space, a comment or the declaration before the root, or the root's `<`.
 #[tactic(auto, unfolding(crate::specs::inner::Readers::prolog_step))]
 fn prolog_step(input: &mut Input<'_>, at_first: bool) -> Result<ControlFlow<u8, bool>, Refusal>
     ensures { Reads (spec.prolog_step at_first input.old) result input.new }
@@ -91,6 +93,7 @@ fn misc(input: &mut Input<'_>) -> Result<(), Refusal>
     Ok(())
 }
 
+/// Reads one byte of white space or a comment behind the root, or ends where nothing is left.
 #[tactic(auto, unfolding(crate::specs::inner::Readers::trail_step))]
 fn trail_step(
     input: &mut Input<'_>,

@@ -26,6 +26,7 @@ fn nodes_of(content: Content) -> Result<Growing<Node>, Memory>
     Ok(nodes)
 }
 
+/// The content with the text that ends here, if there is one, and this child behind its nodes.
 fn with_child(alloc: Global, content: Content, child: Element) -> Result<Content, Memory>
     ensures { IfOk result (λ more. more ≡ grammar.with_child content child) }
 {
@@ -57,6 +58,7 @@ fn cdata(input: &mut Input<'_>, mut content: Content) -> Result<Content, Refusal
     Ok(content)
 }
 
+/// Reads what stands behind a `<` in an element: its end tag, a section or a child.
 #[cycle(elements)]
 #[tactic(auto, unfolding(crate::specs::inner::Readers::bracket))]
 fn bracket(
@@ -81,6 +83,7 @@ fn bracket(
     Ok(ControlFlow::Continue(with_child(alloc, content, child)?))
 }
 
+/// Reads one part of what stands in an element: a byte of text, a section, a child or the end tag.
 #[cycle(elements)]
 #[tactic(auto, unfolding(crate::specs::inner::Readers::content_step))]
 fn content_step(
@@ -102,6 +105,7 @@ fn content_step(
     }
 }
 
+/// Reads the rest of what stands in an element, behind what was read of it, and the end tag.
 #[cycle(elements)]
 fn inside_from(
     alloc: Global,
@@ -138,6 +142,7 @@ fn inside(
     inside_from(alloc, input, level, name, Content { nodes, run })
 }
 
+/// Reads the rest of an element behind its start tag, which is nothing where the tag is the whole element.
 #[cycle(elements)]
 #[tactic(auto, unfolding(crate::specs::inner::Readers::behind_start))]
 fn behind_start(
@@ -165,6 +170,7 @@ fn behind_start(
     })
 }
 
+/// Reads an element behind its `<`, whose children have so many levels.
 #[cycle(elements)]
 #[tactic(auto, unfolding(crate::specs::inner::Readers::element_in))]
 fn element_in(alloc: Global, input: &mut Input<'_>, level: usize) -> Result<Element, Refusal>

@@ -25,6 +25,7 @@ impl Model for Found {
 }
 
 impl Found {
+    /// No attributes.
     pub(crate) fn new(alloc: Global) -> Found
         ensures { result ≡ [] }
     {

@@ -28,6 +28,7 @@ impl<'a> Model for Input<'a> {
 }
 
 impl<'a> Input<'a> {
+    /// These bytes, all still to be read.
     pub(crate) fn new(rest: &'a [u8]) -> Input<'a>
         ensures { result ≡ rest.now }
     {
@@ -63,6 +64,7 @@ impl<'a> Input<'a> {
         self.peek().is_some()
     }
 
+    /// Whether this byte comes next.
     pub(crate) fn sees(&self, byte: u8) -> bool
         ensures { result ≡ next (spec.same byte) (head self.now) }
     {
@@ -72,6 +74,7 @@ impl<'a> Input<'a> {
         }
     }
 
+    /// Whether white space comes next.
     pub(crate) fn sees_white(&self) -> bool
         ensures { result ≡ next class.is_white (head self.now) }
     {
@@ -81,6 +84,7 @@ impl<'a> Input<'a> {
         }
     }
 
+    /// Whether a quote of either kind comes next.
     pub(crate) fn sees_quote(&self) -> bool
         ensures { result ≡ next class.is_quote (head self.now) }
     {
@@ -90,6 +94,7 @@ impl<'a> Input<'a> {
         }
     }
 
+    /// Whether a byte that may begin a name comes next.
     pub(crate) fn sees_name(&self) -> bool
         ensures { result ≡ next class.is_name_start (head self.now) }
     {

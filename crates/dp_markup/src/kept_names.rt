@@ -59,6 +59,7 @@ impl<'a> Hash for Name<'a> {
 }
 
 impl<'a> Name<'a> {
+    /// The name that these bytes are.
     pub(crate) fn of(bytes: &'a [u8]) -> Name<'a>
         ensures { result ≡ bytes.now }
     {
@@ -81,6 +82,7 @@ impl<'a> Model for Names<'a> {
 }
 
 impl<'a> Names<'a> {
+    /// No names.
     pub(crate) fn new(alloc: Global) -> Names<'a>
         ensures { result ≡ [] }
     {

@@ -25,6 +25,7 @@ impl<T> Model for Growing<T> {
 }
 
 impl<T: Drop> Growing<T> {
+    /// An empty list.
     pub(crate) fn new(alloc: Global) -> Self
         ensures { result ≡ [] }
     {
@@ -33,6 +34,7 @@ impl<T: Drop> Growing<T> {
         }
     }
 
+    /// Puts a value at the end.
     pub(crate) fn push(&mut self, value: T) -> Result<(), Memory>
         ensures { OnOk result (self.new ≡ self.old ++ value ∷ []) }
     {
@@ -40,18 +42,21 @@ impl<T: Drop> Growing<T> {
         Ok(())
     }
 
+    /// Whether the list is empty.
     pub(crate) fn is_empty(&self) -> bool
         ensures { result ≡ (length self.now == 0) }
     {
         self.values.is_empty()
     }
 
+    /// The values, as they stand in the list.
     pub(crate) fn as_slice(&self) -> &[T]
         ensures { result.now ≡ self.now }
     {
         self.values.as_slice()
     }
 
+    /// The values, as a list that grows no more.
     pub(crate) fn into_items(self) -> Items<T>
         ensures { result ≡ self }
     {
@@ -60,12 +65,14 @@ impl<T: Drop> Growing<T> {
 }
 
 impl Growing<u8> {
+    /// Puts these bytes at the end.
     pub(crate) fn extend(&mut self, bytes: &[u8]) -> Result<(), Memory>
         ensures { OnOk result (self.new ≡ self.old ++ bytes.now) }
     {
         self.values.extend_from_slice(bytes)
     }
 
+    /// The bytes, as a list that grows no more.
     pub(crate) fn into_bytes(self) -> Bytes
         ensures { result ≡ self }
     {

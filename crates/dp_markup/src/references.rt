@@ -25,6 +25,7 @@ fn decimal_behind(number: u8, digit: u8) -> Option<u8>
     }
 }
 
+/// The number as a byte, where it is at most 255.
 fn within_byte(number: u16) -> Option<u8>
     ensures { result ≡ class.within_byte number }
 {
@@ -35,6 +36,7 @@ fn within_byte(number: u16) -> Option<u8>
     }
 }
 
+/// The number that the hexadecimal digit makes behind this one, up to 255.
 #[tactic(auto, unfolding(crate::specs::Classes::hexadecimal_behind))]
 fn hexadecimal_behind(number: u8, digit: u8) -> Option<u8>
     ensures { result ≡ class.hexadecimal_behind number digit }
@@ -50,6 +52,7 @@ fn hexadecimal_behind(number: u8, digit: u8) -> Option<u8>
     }
 }
 
+/// The number that the digit of this radix makes behind this one, up to 255.
 fn digit_behind(radix: Radix, number: u8, digit: u8) -> Option<u8>
     ensures { result ≡ behind_of radix number digit }
 {
@@ -76,6 +79,7 @@ impl<'a> Input<'a> {
         }
     }
 
+    /// Reads the `;` that ends a number, or one more digit of it; refuses a digit that makes it greater than 255.
     #[tactic(auto, unfolding(crate::specs::inner::Readers::number_step))]
     fn number_step(&mut self, radix: Radix, number: u8) -> Result<ControlFlow<u8, u8>, Refusal>
         ensures { Reads (spec.number_step (behind_of radix) number self.old) result self.new }
@@ -88,6 +92,7 @@ impl<'a> Input<'a> {
         }
     }
 
+    /// Reads the rest of a number, behind what was read of it, and its `;`.
     fn number_from(&mut self, radix: Radix, first: u8) -> Result<u8, Refusal>
         ensures { Reads (closed (spec.number_step (behind_of radix)) first self.old) result self.new }
     {
@@ -101,6 +106,7 @@ impl<'a> Input<'a> {
         Err(self.refuse())
     }
 
+    /// Reads a number of one digit or more in this radix, and its `;`; refuses one greater than 255.
     #[tactic(auto, unfolding(crate::specs::inner::Readers::number))]
     fn number(&mut self, radix: Radix) -> Result<u8, Refusal>
         ensures { Reads (spec.number (behind_of radix) self.old) result self.new }
@@ -109,6 +115,7 @@ impl<'a> Input<'a> {
         self.number_from(radix, first)
     }
 
+    /// Reads the number of a reference behind its `&#`, hexadecimal behind an `x` and else decimal.
     #[tactic(auto, unfolding(crate::specs::inner::Readers::by_number))]
     fn by_number(&mut self) -> Result<u8, Refusal>
         ensures { Reads (spec.by_number self.old) result self.new }
@@ -130,6 +137,7 @@ impl<'a> Input<'a> {
         Ok(byte)
     }
 
+    /// Reads the rest of `amp;` or `apos;` behind its `a`, for the byte that is named so.
     #[tactic(auto, unfolding(crate::specs::inner::Readers::by_a))]
     fn by_a(&mut self) -> Result<u8, Refusal>
         ensures { Reads (spec.by_a self.old) result self.new }
@@ -141,6 +149,7 @@ impl<'a> Input<'a> {
         }
     }
 
+    /// Reads a reference behind its `&`, by number or by one of the five names; refuses any other name.
     #[tactic(auto, unfolding(crate::specs::inner::Readers::entity))]
     fn entity(&mut self) -> Result<u8, Refusal>
         ensures { Reads (spec.entity self.old) result self.new }
@@ -169,6 +178,7 @@ impl<'a> Input<'a> {
         self.entity()
     }
 
+    /// Reads a byte that stands for itself in a value in such quotes; refuses any other.
     fn plain_in_value(&mut self, quote: u8) -> Result<u8, Refusal>
         ensures { Reads (one (passing (class.is_plain_in_value quote)) self.old) result self.new }
     {
@@ -183,6 +193,7 @@ impl<'a> Input<'a> {
         }
     }
 
+    /// Reads a byte that stands for itself in a text; refuses any other.
     fn plain_in_text(&mut self) -> Result<u8, Refusal>
         ensures { Reads (one (passing class.is_plain_in_text) self.old) result self.new }
     {

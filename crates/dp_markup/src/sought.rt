@@ -23,6 +23,7 @@ pub(crate) struct Sought<'a> {
     pub(crate) apart: bool,
 }
 
+/// Passes the quote that ends a value, or one more byte of it; refuses anything else.
 #[tactic(auto, unfolding(crate::specs::inner::Search::pass_step))]
 fn pass_step(input: &mut Input<'_>, quote: u8) -> Result<ControlFlow<(), ()>, Refusal>
     ensures { Reads (spec.pass_step quote tt input.old) result input.new }
@@ -50,6 +51,7 @@ fn pass_quoted(input: &mut Input<'_>, quote: u8) -> Result<(), Refusal>
     Err(input.refuse())
 }
 
+/// Passes a value between quotes of either kind; refuses where no quote comes next.
 #[tactic(auto, unfolding(crate::specs::inner::Search::pass_value))]
 fn pass_value(input: &mut Input<'_>) -> Result<(), Refusal>
     ensures { Reads (spec.pass_value input.old) result input.new }
@@ -58,6 +60,7 @@ fn pass_value(input: &mut Input<'_>) -> Result<(), Refusal>
     pass_quoted(input, quote)
 }
 
+/// Passes a value, or one byte of white space before it; refuses anything else.
 #[tactic(auto, unfolding(crate::specs::inner::Search::spaced_pass_step))]
 fn spaced_pass_step(input: &mut Input<'_>) -> Result<ControlFlow<(), ()>, Refusal>
     ensures { Reads (spec.spaced_pass_step tt input.old) result input.new }
@@ -102,6 +105,7 @@ fn sought_value(
     }
 }
 
+/// The new value where there is one, and else the old.
 fn kept(old: Option<Bytes>, new: Option<Bytes>) -> Option<Bytes>
     ensures { result ≡ spec.kept old new }
 {
@@ -141,6 +145,7 @@ fn sought_attribute<'a>(
     })
 }
 
+/// Reads one byte of white space or an attribute in a start tag; refuses an attribute without white space before it.
 #[tactic(auto, unfolding(crate::specs::inner::Search::sought_piece, crate::specs::inner::Input::refuse))]
 fn sought_piece<'a>(
     alloc: Global,
@@ -191,6 +196,7 @@ fn sought_end(
     Ok(if is_root { value } else { None })
 }
 
+/// Reads the rest of a start tag to its end, for the value that is sought, where the tag is the one asked for.
 fn sought_from<'a>(
     alloc: Global,
     input: &mut Input<'a>,

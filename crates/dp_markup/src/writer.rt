@@ -20,6 +20,7 @@ pub fn write(alloc: Global, e: &Element) -> Result<Bytes, Memory>
     Ok(Bytes::of(out))
 }
 
+/// Puts the canonical text of an element, with all that stands in it.
 #[cycle(writing)]
 fn write_element(out: &mut Vec<u8>, element: &Element) -> Result<(), Memory>
     ensures { OnOk result (out.new.items ≡ out.old.items ++ written element.now) }
@@ -35,6 +36,7 @@ fn write_element(out: &mut Vec<u8>, element: &Element) -> Result<(), Memory>
     Ok(())
 }
 
+/// Puts the canonical text of nodes, in their order.
 #[cycle(writing)]
 fn write_nodes(out: &mut Vec<u8>, nodes: &[Node]) -> Result<(), Memory>
     ensures { OnOk result (out.new.items ≡ out.old.items ++ nodes_text nodes.now) }
@@ -45,6 +47,7 @@ fn write_nodes(out: &mut Vec<u8>, nodes: &[Node]) -> Result<(), Memory>
     Ok(())
 }
 
+/// Puts the canonical text of a node: a text with references, or a child.
 #[cycle(writing)]
 fn write_node(out: &mut Vec<u8>, node: &Node) -> Result<(), Memory>
     ensures { OnOk result (out.new.items ≡ out.old.items ++ node_text node.now) }
@@ -55,6 +58,7 @@ fn write_node(out: &mut Vec<u8>, node: &Node) -> Result<(), Memory>
     }
 }
 
+/// Puts the canonical text of attributes, in their order.
 fn write_attributes(out: &mut Vec<u8>, attributes: &[(Bytes, Bytes)]) -> Result<(), Memory>
     ensures { OnOk result (out.new.items ≡ out.old.items ++ flat_map attribute_text attributes.now) }
 {
@@ -64,6 +68,7 @@ fn write_attributes(out: &mut Vec<u8>, attributes: &[(Bytes, Bytes)]) -> Result<
     Ok(())
 }
 
+/// Puts ` name="value"`, with references in the value.
 fn write_attribute(out: &mut Vec<u8>, name: &[u8], value: &[u8]) -> Result<(), Memory>
     ensures { OnOk result (out.new.items ≡ out.old.items ++ attribute_text (name.now, value.now)) }
 {
@@ -75,6 +80,7 @@ fn write_attribute(out: &mut Vec<u8>, name: &[u8], value: &[u8]) -> Result<(), M
     Ok(())
 }
 
+/// Puts bytes, each by itself or as a reference.
 fn write_escaped(out: &mut Vec<u8>, bytes: &[u8]) -> Result<(), Memory>
     ensures { OnOk result (out.new.items ≡ out.old.items ++ escaped_all bytes.now) }
 {
@@ -84,6 +90,7 @@ fn write_escaped(out: &mut Vec<u8>, bytes: &[u8]) -> Result<(), Memory>
     Ok(())
 }
 
+/// Puts a byte by itself, or as a reference where it is no plain one.
 fn write_byte(out: &mut Vec<u8>, byte: u8) -> Result<(), Memory>
     ensures { OnOk result (out.new.items ≡ out.old.items ++ escaped byte) }
 {
@@ -97,6 +104,7 @@ fn write_byte(out: &mut Vec<u8>, byte: u8) -> Result<(), Memory>
     }
 }
 
+/// Puts a byte from 0x20 to 0x7e by itself, and any other as a reference by number.
 fn write_plain_or_number(out: &mut Vec<u8>, byte: u8) -> Result<(), Memory>
     ensures { OnOk result (out.new.items ≡ out.old.items ++ plain_or_number byte) }
 {
@@ -110,6 +118,7 @@ fn write_plain_or_number(out: &mut Vec<u8>, byte: u8) -> Result<(), Memory>
     Ok(())
 }
 
+/// Puts a number of at most 255 in decimal.
 fn write_decimal(out: &mut Vec<u8>, number: u8) -> Result<(), Memory>
     ensures { OnOk result (out.new.items ≡ out.old.items ++ decimal number) }
 {

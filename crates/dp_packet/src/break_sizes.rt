@@ -12,6 +12,7 @@ use crate::sizes::{
 };
 use dp_value::Bytes;
 
+/// The size of the attributes that give a breakpoint's id, its type and its state.
 fn kind_size(line: &BreakLine) -> u64
     ensures { result ≡ counted (attributes_size (spec.kind_attributes line.now)) }
 {
@@ -20,6 +21,7 @@ fn kind_size(line: &BreakLine) -> u64
         .saturating_add(size_of(b"state", state_name(line.enabled)))
 }
 
+/// The size of the attributes that give a breakpoint's file, line and function, where it has them.
 #[tactic(auto, using(crate::proofs::SizeLaws::attributes_append))]
 fn place_size(line: &BreakLine) -> u64
     ensures { result ≡ counted (attributes_size (spec.place_attributes line.now)) }
@@ -29,6 +31,7 @@ fn place_size(line: &BreakLine) -> u64
         .saturating_add(given_size(b"function", &line.function))
 }
 
+/// The size of the attributes that give a breakpoint's hits, their condition, and whether it is temporary.
 #[tactic(auto, using(crate::proofs::SizeLaws::attributes_append))]
 fn hit_size(line: &BreakLine) -> u64
     ensures { result ≡ counted (attributes_size (spec.hit_attributes line.now)) }
@@ -39,6 +42,7 @@ fn hit_size(line: &BreakLine) -> u64
         .saturating_add(flag_size(b"temporary", line.temporary))
 }
 
+/// The size of the element of a breakpoint's expression, 0 where it has none.
 #[tactic(auto, using(crate::proofs::SizeLaws::child_length, crate::proofs::SizeLaws::alone_length, crate::proofs::SizeLaws::text_length))]
 fn expression_size(expression: &Option<Bytes>) -> u64
     ensures { result ≡ counted (length (nodes_text (spec.expression_nodes expression.now))) }

@@ -11,6 +11,7 @@ use dp_markup::Node;
 use dp_value::Bytes;
 use std::alloc::Global;
 
+/// The name of a kind of breakpoint, as the attribute `type` has it.
 pub(crate) fn kind_name(kind: BreakKind) -> &'static [u8]
     ensures { result.now ≡ spec.kind_name kind }
 {
@@ -22,6 +23,7 @@ pub(crate) fn kind_name(kind: BreakKind) -> &'static [u8]
     }
 }
 
+/// The sign of a hit rule, as the attribute `hit_condition` has it.
 pub(crate) fn rule_name(rule: HitRule) -> &'static [u8]
     ensures { result.now ≡ spec.rule_name rule }
 {
@@ -32,12 +34,14 @@ pub(crate) fn rule_name(rule: HitRule) -> &'static [u8]
     }
 }
 
+/// The name of a breakpoint's state, `enabled` or `disabled`.
 pub(crate) fn state_name(enabled: bool) -> &'static [u8]
     ensures { result.now ≡ spec.state_name enabled }
 {
     if enabled { b"enabled" } else { b"disabled" }
 }
 
+/// Puts the attributes that give a breakpoint's id, its type and its state.
 fn put_kind(
     alloc: Global,
     attributes: &mut Vec<(Bytes, Bytes)>,
@@ -51,6 +55,7 @@ fn put_kind(
     put_attribute(alloc, attributes, b"state", state_name(line.enabled))
 }
 
+/// Puts the attributes that give a breakpoint's file, line and function, where it has them.
 fn put_place(
     alloc: Global,
     attributes: &mut Vec<(Bytes, Bytes)>,
@@ -64,6 +69,7 @@ fn put_place(
     put_given(alloc, attributes, b"function", &line.function)
 }
 
+/// Puts the attributes that give a breakpoint's hits, and the number that they are compared with.
 fn put_counts(
     alloc: Global,
     attributes: &mut Vec<(Bytes, Bytes)>,
@@ -77,6 +83,7 @@ fn put_counts(
     Ok(())
 }
 
+/// Puts the attribute `hit_condition` of a hit rule.
 fn put_rule(
     alloc: Global,
     attributes: &mut Vec<(Bytes, Bytes)>,
@@ -88,6 +95,7 @@ fn put_rule(
     put_attribute(alloc, attributes, b"hit_condition", rule_name(rule))
 }
 
+/// Puts the attributes that give a breakpoint's hits, their condition, and whether it is temporary.
 fn put_hits(
     alloc: Global,
     attributes: &mut Vec<(Bytes, Bytes)>,
@@ -102,6 +110,7 @@ fn put_hits(
     Ok(())
 }
 
+/// The element of a breakpoint's expression, and nothing where it has none.
 fn expression_nodes(alloc: Global, expression: &Option<Bytes>) -> Result<Vec<Node>, Memory>
     ensures { IfOk result (λ nodes. nodes.items ≡ spec.expression_nodes expression.now) }
 {

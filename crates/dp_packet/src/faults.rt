@@ -23,6 +23,7 @@ pub fn reason(id: u8) -> &'static [u8]
     }
 }
 
+/// The element `message` with this text.
 fn message_node(alloc: Global, text: &[u8]) -> Result<Node, Memory>
     ensures { IfOk result (λ n. n ≡ packets.message_node text.now) }
 {

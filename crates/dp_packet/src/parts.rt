@@ -29,6 +29,7 @@ pub fn put_attribute(
     Ok(())
 }
 
+/// Puts an attribute whose value is a number in decimal.
 pub(crate) fn put_number(
     alloc: Global,
     attributes: &mut Vec<(Bytes, Bytes)>,
@@ -58,6 +59,7 @@ pub(crate) fn put_given(
     }
 }
 
+/// Puts an attribute of a number that may be missing.
 pub(crate) fn put_given_number(
     alloc: Global,
     attributes: &mut Vec<(Bytes, Bytes)>,
@@ -92,6 +94,7 @@ pub(crate) fn put_all(
     Ok(())
 }
 
+/// Puts the attribute `xmlns` with the namespace of DBGp.
 pub(crate) fn put_namespace(
     alloc: Global,
     attributes: &mut Vec<(Bytes, Bytes)>,
@@ -101,12 +104,14 @@ pub(crate) fn put_namespace(
     put_attribute(alloc, attributes, b"xmlns", b"urn:debugger_protocol_v1")
 }
 
+/// The value of an attribute that says yes or no: `1` or `0`.
 pub(crate) fn flag(value: bool) -> &'static [u8]
     ensures { result.now ≡ spec.flag value }
 {
     if value { b"1" } else { b"0" }
 }
 
+/// Puts an attribute whose value is `1` or `0`.
 pub(crate) fn put_flag(
     alloc: Global,
     attributes: &mut Vec<(Bytes, Bytes)>,

@@ -39,6 +39,7 @@ fn put_paging(
     Ok(())
 }
 
+/// Puts the attributes of an array: its type, whether it has entries, their number, and the page.
 fn put_array(
     alloc: Global,
     attributes: &mut Vec<(Bytes, Bytes)>,
@@ -55,6 +56,7 @@ fn put_array(
     Ok(())
 }
 
+/// Puts the attributes of a text: its type, its length in bytes, and that it stands in base64.
 fn put_text(alloc: Global, attributes: &mut Vec<(Bytes, Bytes)>, size: u64) -> Result<(), Memory>
     ensures { OnOk result (attributes.new.items ≡ attributes.old.items ++ text_attributes size) }
 {
@@ -108,6 +110,7 @@ fn value_nodes(alloc: Global, shape: &Shape) -> Result<Vec<Node>, Memory>
     }
 }
 
+/// The element of a property, with what stands in it.
 #[cycle(showing)]
 fn property_of(alloc: Global, p: &Property) -> Result<Node, Memory>
     ensures { IfOk result (λ n. n ≡ property_node p.now) }

@@ -22,6 +22,7 @@ pub fn base64_size(bytes: &[u8]) -> u64
     (bytes.len() as u64 + 2) / 3 * 4
 }
 
+/// The size of the attributes of a text of this length.
 fn string_size(size: u64) -> u64
     ensures { result ≡ counted (attributes_size (text_attributes size)) }
 {
@@ -30,6 +31,7 @@ fn string_size(size: u64) -> u64
         .saturating_add(size_of(b"encoding", b"base64"))
 }
 
+/// The size of the attributes that give an array's number of entries, its page and the size of a page.
 fn paging_size(count: u64, page: u64, pagesize: u64) -> u64
     ensures { result ≡ counted (attributes_size (paging_attributes count page pagesize)) }
 {
@@ -38,6 +40,7 @@ fn paging_size(count: u64, page: u64, pagesize: u64) -> u64
         .saturating_add(number_size(b"pagesize", pagesize))
 }
 
+/// The size of the attributes of an array.
 fn array_size(count: u64, page: u64, pagesize: u64) -> u64
     ensures { result ≡ counted (attributes_size (array_attributes count page pagesize)) }
 {
@@ -64,6 +67,7 @@ fn value_size(shape: &Shape) -> u64
     }
 }
 
+/// The size of an integer in decimal, as a text.
 fn int_size(number: i64) -> u64
     ensures { result ≡ counted (length (escaped_all (signed_decimal number))) }
 {

@@ -14,6 +14,7 @@ use dp_markup::{Element, Node};
 use dp_value::Bytes;
 use std::alloc::Global;
 
+/// The element of a frame of the stack.
 fn stack_of(alloc: Global, line: &StackLine) -> Result<Node, Memory>
     ensures { IfOk result (λ n. n ≡ spec.stack_node line.now) }
 {
@@ -26,6 +27,7 @@ fn stack_of(alloc: Global, line: &StackLine) -> Result<Node, Memory>
     child(alloc, b"stack", attributes, Vec::new(alloc))
 }
 
+/// The elements of frames of the stack.
 fn stack_nodes(alloc: Global, lines: &[StackLine]) -> Result<Vec<Node>, Memory>
     ensures { IfOk result (λ nodes. nodes.items ≡ map spec.stack_node lines.now) }
 {
@@ -36,6 +38,7 @@ fn stack_nodes(alloc: Global, lines: &[StackLine]) -> Result<Vec<Node>, Memory>
     Ok(nodes)
 }
 
+/// The element of a context, which has a name and an id.
 fn context_of(alloc: Global, name: &Bytes, id: u32) -> Result<Node, Memory>
     ensures { IfOk result (λ n. n ≡ spec.context_node (name.now, id)) }
 {
@@ -45,6 +48,7 @@ fn context_of(alloc: Global, name: &Bytes, id: u32) -> Result<Node, Memory>
     child(alloc, b"context", attributes, Vec::new(alloc))
 }
 
+/// The elements of contexts.
 fn context_nodes(alloc: Global, contexts: &[(Bytes, u32)]) -> Result<Vec<Node>, Memory>
     ensures { IfOk result (λ nodes. nodes.items ≡ map spec.context_node contexts.now) }
 {
@@ -55,6 +59,7 @@ fn context_nodes(alloc: Global, contexts: &[(Bytes, u32)]) -> Result<Vec<Node>, 
     Ok(nodes)
 }
 
+/// What a body puts between the tags of its response.
 fn body_nodes(alloc: Global, body: &Body) -> Result<Vec<Node>, Memory>
     ensures { IfOk result (λ nodes. nodes.items ≡ spec.body_nodes body.now) }
 {

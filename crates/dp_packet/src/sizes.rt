@@ -11,6 +11,7 @@ use crate::parts::flag;
 use dp_value::Bytes;
 use itoa::Buffer;
 
+/// The size of a byte in a text: 1 where it stands for itself, and else that of its reference.
 fn byte_size(byte: u8) -> u64
     ensures { result ≡ length (escaped byte) }
 {
@@ -55,12 +56,14 @@ pub fn short_size(name: &[u8], value: &[u8]) -> u64
     attribute_size(name, value)
 }
 
+/// The size of ` name="value"`, with references in the value.
 pub(crate) fn size_of(name: &[u8], value: &[u8]) -> u64
     ensures { result ≡ counted (spec.attribute_size (name.now, value.now)) }
 {
     escaped_size(value).saturating_add(name.len() as u64 + 4)
 }
 
+/// The size of an attribute whose value is a number in decimal.
 pub(crate) fn number_size(name: &[u8], number: u64) -> u64
     ensures { result ≡ counted (spec.attribute_size (name.now, decimal number)) }
 {
@@ -68,12 +71,14 @@ pub(crate) fn number_size(name: &[u8], number: u64) -> u64
     size_of(name, buffer.format(number).as_bytes())
 }
 
+/// The size of an attribute whose value is `1` or `0`.
 pub(crate) fn flag_size(name: &[u8], value: bool) -> u64
     ensures { result ≡ counted (spec.attribute_size (name.now, flag value)) }
 {
     size_of(name, flag(value))
 }
 
+/// The size of an attribute that may be missing, 0 where it is.
 pub(crate) fn given_size(name: &[u8], value: &Option<Bytes>) -> u64
     ensures { result ≡ counted (spec.attributes_size (given name.now value.now)) }
 {
@@ -83,6 +88,7 @@ pub(crate) fn given_size(name: &[u8], value: &Option<Bytes>) -> u64
     }
 }
 
+/// The size of an attribute of a number that may be missing, 0 where it is.
 pub(crate) fn given_number_size(name: &[u8], value: Option<u32>) -> u64
     ensures { result ≡ counted (spec.attributes_size (given_number name.now value)) }
 {

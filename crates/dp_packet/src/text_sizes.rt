@@ -18,6 +18,7 @@ use dp_value::Bytes;
 /// The size of `xmlns` with the namespace of DBGp.
 const NAMESPACE: u64 = 33;
 
+/// The size of the element of a frame of the stack.
 #[tactic(auto, using(crate::proofs::SizeLaws::child_length))]
 fn stack_size(line: &StackLine) -> u64
     ensures { result ≡ counted (length (node_text (spec.stack_node line.now))) }
@@ -30,6 +31,7 @@ fn stack_size(line: &StackLine) -> u64
     element_size(b"stack", attributes, 0)
 }
 
+/// The size of the elements of frames of the stack.
 fn stacks_size(lines: &[StackLine]) -> u64
     ensures { result ≡ counted (length (nodes_text (map spec.stack_node lines.now))) }
 {
@@ -40,6 +42,7 @@ fn stacks_size(lines: &[StackLine]) -> u64
     size
 }
 
+/// The size of the element of a context.
 #[tactic(auto, using(crate::proofs::SizeLaws::child_length))]
 fn context_size(name: &Bytes, id: u32) -> u64
     ensures { result ≡ counted (length (node_text (spec.context_node (name.now, id)))) }
@@ -50,6 +53,7 @@ fn context_size(name: &Bytes, id: u32) -> u64
     element_size(b"context", attributes, 0)
 }
 
+/// The size of the elements of contexts.
 fn contexts_size(contexts: &[(Bytes, u32)]) -> u64
     ensures { result ≡ counted (length (nodes_text (map spec.context_node contexts.now))) }
 {
@@ -60,6 +64,7 @@ fn contexts_size(contexts: &[(Bytes, u32)]) -> u64
     size
 }
 
+/// The size of the element `message` with this text.
 #[tactic(auto, using(crate::proofs::SizeLaws::child_length, crate::proofs::SizeLaws::text_length))]
 fn message_size(text: &[u8]) -> u64
     ensures { result ≡ counted (length (node_text (spec.message_node text.now))) }
@@ -67,6 +72,7 @@ fn message_size(text: &[u8]) -> u64
     element_size(b"message", 0, escaped_size(text))
 }
 
+/// The size of the element of an error.
 #[tactic(auto, using(crate::proofs::SizeLaws::child_length, crate::proofs::SizeLaws::alone_length))]
 fn error_size(code: u16) -> u64
     ensures { result ≡ counted (length (node_text (spec.error_node code))) }
@@ -78,6 +84,7 @@ fn error_size(code: u16) -> u64
     )
 }
 
+/// The size of the element of a proxy's refusal.
 #[tactic(auto, using(crate::proofs::SizeLaws::child_length, crate::proofs::SizeLaws::alone_length))]
 fn refusal_size(id: u8) -> u64
     ensures { result ≡ counted (length (node_text (spec.refusal_node id))) }
@@ -89,6 +96,7 @@ fn refusal_size(id: u8) -> u64
     )
 }
 
+/// The size of what a body puts between the tags of its response.
 #[tactic(auto, using(crate::proofs::SizeLaws::text_length, crate::proofs::SizeLaws::alone_length))]
 fn body_size(body: &Body) -> u64
     ensures { result ≡ counted (length (nodes_text (spec.body_nodes body.now))) }
@@ -104,6 +112,7 @@ fn body_size(body: &Body) -> u64
     }
 }
 
+/// The size of the attributes of a list.
 fn listed_size(attributes: &[(Bytes, Bytes)]) -> u64
     ensures { result ≡ counted (attributes_size attributes.now) }
 {
@@ -114,6 +123,7 @@ fn listed_size(attributes: &[(Bytes, Bytes)]) -> u64
     size
 }
 
+/// The size of the element of a response.
 #[tactic(auto, using(crate::proofs::SizeLaws::written_length))]
 fn response_size(response: &Response) -> u64
     ensures { result ≡ counted (length (written (spec.response_element response.now))) }
@@ -125,6 +135,7 @@ fn response_size(response: &Response) -> u64
     element_size(b"response", attributes, body_size(&response.body))
 }
 
+/// The size of the element of a session's first packet.
 #[tactic(auto, using(crate::proofs::SizeLaws::written_length))]
 fn init_size(init: &Init) -> u64
     ensures { result ≡ counted (length (written (spec.init_element init.now))) }
@@ -135,6 +146,7 @@ fn init_size(init: &Init) -> u64
     element_size(b"init", attributes, 0)
 }
 
+/// The size of the element of the program's output.
 #[tactic(auto, using(crate::proofs::SizeLaws::written_length, crate::proofs::SizeLaws::text_length))]
 fn stream_size(bytes: &[u8]) -> u64
     ensures { result ≡ counted (length (written (spec.stream_element bytes.now))) }
@@ -142,6 +154,7 @@ fn stream_size(bytes: &[u8]) -> u64
     element_size(b"stream", NAMESPACE + 32, base64_size(bytes))
 }
 
+/// The size of the element of the breakpoint that a notification tells of, 0 where it tells of none.
 #[tactic(auto, using(crate::proofs::SizeLaws::alone_length))]
 fn notified_size(told: &Option<BreakLine>) -> u64
     ensures { result ≡ counted (length (nodes_text (spec.notified_nodes told.now))) }
@@ -152,6 +165,7 @@ fn notified_size(told: &Option<BreakLine>) -> u64
     }
 }
 
+/// The size of the element of a notification.
 #[tactic(auto, using(crate::proofs::SizeLaws::written_length))]
 fn notify_size(notify: &Notify) -> u64
     ensures { result ≡ counted (length (written (spec.notify_element notify.now))) }
@@ -160,6 +174,7 @@ fn notify_size(notify: &Notify) -> u64
     element_size(b"notify", attributes, notified_size(&notify.breakpoint))
 }
 
+/// The size of the element of a proxy's reply.
 #[tactic(auto, using(crate::proofs::SizeLaws::written_length, crate::proofs::SizeLaws::alone_length))]
 fn proxy_size(reply: &ProxyReply) -> u64
     ensures { result ≡ counted (length (written (spec.proxy_element reply.now))) }
@@ -187,6 +202,7 @@ fn proxy_size(reply: &ProxyReply) -> u64
     }
 }
 
+/// The size of the element of a packet, without the declaration.
 fn packet_size(packet: &Packet) -> u64
     ensures { result ≡ counted (length (written (spec.element_of packet.now))) }
 {

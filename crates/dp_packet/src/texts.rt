@@ -30,6 +30,7 @@ pub fn has_message(packet: &Packet) -> bool
     }
 }
 
+/// The element of a session's first packet.
 fn init_element(alloc: Global, init: &Init) -> Result<Element, Memory>
     ensures { IfOk result (λ e. e ≡ spec.init_element init.now) }
 {
@@ -46,6 +47,7 @@ fn init_element(alloc: Global, init: &Init) -> Result<Element, Memory>
     element(alloc, b"init", attributes, Vec::new(alloc))
 }
 
+/// The element of the program's output, which stands in it in base64.
 fn stream_element(alloc: Global, bytes: &[u8]) -> Result<Element, Memory>
     ensures { IfOk result (λ e. e ≡ spec.stream_element bytes.now) }
 {
@@ -57,6 +59,7 @@ fn stream_element(alloc: Global, bytes: &[u8]) -> Result<Element, Memory>
     element(alloc, b"stream", attributes, nodes)
 }
 
+/// The element of the breakpoint that a notification tells of, and nothing where it tells of none.
 fn notified_nodes(alloc: Global, told: &Option<BreakLine>) -> Result<Vec<Node>, Memory>
     ensures { IfOk result (λ nodes. nodes.items ≡ spec.notified_nodes told.now) }
 {
@@ -66,6 +69,7 @@ fn notified_nodes(alloc: Global, told: &Option<BreakLine>) -> Result<Vec<Node>, 
     }
 }
 
+/// The element of a notification.
 fn notify_element(alloc: Global, notify: &Notify) -> Result<Element, Memory>
     ensures { IfOk result (λ e. e ≡ spec.notify_element notify.now) }
 {
@@ -76,12 +80,14 @@ fn notify_element(alloc: Global, notify: &Notify) -> Result<Element, Memory>
     element(alloc, b"notify", attributes, nodes)
 }
 
+/// The name of the element of a proxy's refusal: `proxystop` where it was asked to stop, else `proxyinit`.
 pub(crate) fn refusal_name(stopping: bool) -> &'static [u8]
     ensures { result.now ≡ spec.refusal_name stopping }
 {
     if stopping { b"proxystop" } else { b"proxyinit" }
 }
 
+/// The element of a proxy's reply.
 fn proxy_element(alloc: Global, reply: &ProxyReply) -> Result<Element, Memory>
     ensures { IfOk result (λ e. e ≡ spec.proxy_element reply.now) }
 {
@@ -107,6 +113,7 @@ fn proxy_element(alloc: Global, reply: &ProxyReply) -> Result<Element, Memory>
     }
 }
 
+/// The element of a packet.
 fn element_of(alloc: Global, packet: &Packet) -> Result<Element, Memory>
     ensures { IfOk result (λ e. e ≡ spec.element_of packet.now) }
 {

@@ -30,12 +30,14 @@ pub(crate) fn is_key(bytes: &[u8]) -> bool
     is_name(bytes, KEY_LIMIT)
 }
 
+/// Whether a letter is one of these.
 fn is_among(letter: u8, letters: &[u8]) -> bool
     ensures { result ≡ list_any (λ l. l == letter) letters.now }
 {
     letters.iter().any(|l| *l == letter)
 }
 
+/// Whether the letter of each option is one of these.
 fn are_among(letters: &[u8], options: &[(u8, Bytes)]) -> bool
     ensures { result ≡ list_all (λ o. list_any (λ letter. letter == o.0) letters.now) options.now }
 {
@@ -77,6 +79,7 @@ fn multiple_in(options: &[(u8, Bytes)]) -> Option<bool>
     }
 }
 
+/// The call to register that options make; none where the port or the key is not given, or `-m` is wrong.
 fn register_in(alloc: Global, options: &[(u8, Bytes)]) -> Result<Option<Call>, Memory>
     ensures { IfOk result (λ call. call ≡ spec.register_in options.now) }
 {
@@ -97,6 +100,7 @@ fn register_in(alloc: Global, options: &[(u8, Bytes)]) -> Result<Option<Call>, M
     }))
 }
 
+/// The call to stop that options make; none where no key is given.
 fn stop_in(alloc: Global, options: &[(u8, Bytes)]) -> Result<Option<Call>, Memory>
     ensures { IfOk result (λ call. call ≡ spec.stop_in options.now) }
 {
@@ -108,6 +112,7 @@ fn stop_in(alloc: Global, options: &[(u8, Bytes)]) -> Result<Option<Call>, Memor
     }
 }
 
+/// The call that a line makes, `proxyinit` or `proxystop` with its own options and no payload; none for any other.
 fn call_on(alloc: Global, line: &Line) -> Result<Option<Call>, Memory>
     ensures { IfOk result (λ call. call ≡ spec.call_on line.now) }
 {

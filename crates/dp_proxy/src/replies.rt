@@ -71,6 +71,7 @@ pub fn reply_of(
     }
 }
 
+/// The reply to a call of a host that the registry accepted.
 fn accepted(alloc: Global, host: &[u8], call: Call) -> Result<ProxyReply, Memory>
     ensures { IfOk result (λ reply. reply ≡ spec.accepted host.now call) }
 {

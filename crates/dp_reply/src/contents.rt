@@ -13,6 +13,7 @@ use dp_markup::{Element, Node, same_text};
 use dp_value::{Bytes, Memory, decimal};
 use std::alloc::Global;
 
+/// Reads `0` or `1`; refuses any other text.
 pub(crate) fn flag(text: &[u8]) -> Result<bool, ReplyError>
     ensures { Finds (λ b. b) result (spec.flag_in text.now) }
 {
@@ -81,6 +82,7 @@ pub(crate) fn optional_text(
     }
 }
 
+/// Whether the element has this name.
 pub(crate) fn is_named(e: &Element, name: &[u8]) -> bool
     ensures { result ≡ spec.is_named name.now e.now }
 {
@@ -99,6 +101,7 @@ pub(crate) fn number_at(e: &Element, name: &[u8], most: u64) -> Result<u64, Repl
     }
 }
 
+/// Reads a decimal of at most 32 bits; refuses any other text.
 pub(crate) fn number_of_32_bits(text: &[u8]) -> Result<u32, ReplyError>
     ensures { Finds (λ n. n) result (decimal_in spec.most_32 text.now) }
 {
@@ -108,6 +111,7 @@ pub(crate) fn number_of_32_bits(text: &[u8]) -> Result<u32, ReplyError>
     }
 }
 
+/// Reads the number of at most 32 bits in the attribute of this name; refuses where there is none.
 pub(crate) fn number_of_32_bits_at(e: &Element, name: &[u8]) -> Result<u32, ReplyError>
     ensures { Finds (λ n. n) result (spec.number_at name.now spec.most_32 e.now) }
 {
@@ -166,6 +170,7 @@ pub(crate) fn words(alloc: Global, nodes: &[Node]) -> Result<Bytes, Memory>
     Ok(Bytes::of(text))
 }
 
+/// Puts the text that a node is, and nothing for an element.
 fn put_words(text: &mut Vec<u8>, node: &Node) -> Result<(), Memory>
     ensures { OnOk result (text.new.items ≡
         text.old.items ++ spec.words_of (out-Node node.now)) }
@@ -200,6 +205,7 @@ pub(crate) fn has_no_words(nodes: &[Node]) -> bool
     true
 }
 
+/// Whether the node is a text that is not empty.
 fn has_words(node: &Node) -> bool
     ensures { result ≡ not (spec.is_empty (spec.words_of (out-Node node.now))) }
 {
@@ -242,6 +248,7 @@ pub(crate) fn only(nodes: &[Node]) -> Result<Option<&Element>, ReplyError>
     Ok(None)
 }
 
+/// The element, where no other of DBGp's is among these nodes; refuses where there is one.
 fn alone<'a>(e: &'a Element, others: &[Node]) -> Result<Option<&'a Element>, ReplyError>
     ensures { Finds (λ found. option_copied found) result
         (spec.only (e.now ∷ spec.elements others.now)) }

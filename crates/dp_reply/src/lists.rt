@@ -16,10 +16,12 @@ use std::alloc::Global;
 pub(crate) trait Entry: Sized + Drop {
     ghost entry: { Tree → Option Self };
 
+    /// Reads the entry that an element is; refuses an element that is none.
     fn of(alloc: Global, e: &Element) -> Result<Self, ReplyError>
         ensures { Finds (λ found. found) result (entry e.now) };
 }
 
+/// Reads the element of DBGp's that a node is, if it is one, behind those found; refuses one that is no entry.
 fn put<T: Entry>(alloc: Global, found: &mut Vec<T>, node: &Node) -> Result<(), ReplyError>
     ensures { Finds (λ _. found.new.items) result
         (behind found.old.items (each T.entry (elements_of (out-Node node.now)))) }

@@ -13,6 +13,7 @@ use dp_packet::{BreakKind, BreakLine, HitRule};
 use dp_value::Bytes;
 use std::alloc::Global;
 
+/// Reads the type of a breakpoint; refuses any text but `line`, `call`, `return` and `conditional`.
 fn kind_in(text: &[u8]) -> Result<BreakKind, ReplyError>
     ensures { Finds (λ kind. kind) result (spec.kind_in text.now) }
 {
@@ -29,6 +30,7 @@ fn kind_in(text: &[u8]) -> Result<BreakKind, ReplyError>
     }
 }
 
+/// Reads whether a breakpoint is enabled; refuses any text but `enabled` and `disabled`.
 fn state_in(text: &[u8]) -> Result<bool, ReplyError>
     ensures { Finds (λ enabled. enabled) result (spec.state_in text.now) }
 {
@@ -41,6 +43,7 @@ fn state_in(text: &[u8]) -> Result<bool, ReplyError>
     }
 }
 
+/// Reads a hit condition; refuses any text but `>=`, `==` and `%`.
 fn rule_in(text: &[u8]) -> Result<HitRule, ReplyError>
     ensures { Finds (λ rule. rule) result (spec.rule_in text.now) }
 {
@@ -78,6 +81,7 @@ fn hits_in(e: &Element) -> Result<(u64, u32, HitRule, bool), ReplyError>
     Ok((hits, hit_value, hit_rule, temporary))
 }
 
+/// Reads the expression of a breakpoint, if it has one; refuses any other element, and text beside it.
 fn expression_in(alloc: Global, e: &Element) -> Result<Option<Bytes>, ReplyError>
     ensures { Finds (λ text. text) result (spec.expression_in e.now) }
 {

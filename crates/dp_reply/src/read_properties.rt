@@ -14,6 +14,7 @@ use dp_packet::{Property, Shape};
 use dp_value::{Items, int_of_text};
 use std::alloc::Global;
 
+/// Reads the boolean of a property; refuses any text but `0` and `1`.
 fn bool_in(alloc: Global, e: &Element) -> Result<Shape, ReplyError>
     ensures { Finds (λ s. s) result (spec.bool_in e.now) }
 {
@@ -21,6 +22,7 @@ fn bool_in(alloc: Global, e: &Element) -> Result<Shape, ReplyError>
     Ok(Shape::Bool(flag(text.as_slice())?))
 }
 
+/// Reads the integer of a property; refuses a text that is no integer of 64 bits in its shortest form.
 fn int_in(alloc: Global, e: &Element) -> Result<Shape, ReplyError>
     ensures { Finds (λ s. s) result (spec.int_in e.now) }
 {
@@ -31,6 +33,7 @@ fn int_in(alloc: Global, e: &Element) -> Result<Shape, ReplyError>
     }
 }
 
+/// Reads the text of a property from base64, and its size; refuses more bytes than the size.
 fn string_in(alloc: Global, e: &Element) -> Result<Shape, ReplyError>
     ensures { Finds (λ s. s) result (spec.string_in e.now) }
 {
@@ -44,6 +47,7 @@ fn string_in(alloc: Global, e: &Element) -> Result<Shape, ReplyError>
     }
 }
 
+/// Reads the property of at most so many levels that a node is, if it is an element of DBGp's, behind those found.
 #[cycle(reading)]
 fn put(
     alloc: Global,
@@ -60,6 +64,7 @@ fn put(
     Ok(())
 }
 
+/// Reads the properties of at most so many levels among nodes; refuses any other element of DBGp's.
 #[cycle(reading)]
 fn nested(alloc: Global, nodes: &[Node], level: usize) -> Result<Items<Property>, ReplyError>
     ensures { Finds (λ found. found) result
@@ -72,6 +77,7 @@ fn nested(alloc: Global, nodes: &[Node], level: usize) -> Result<Items<Property>
     Ok(Items::of(found))
 }
 
+/// Reads the array of a property: its number of entries, its page, and the entries shown; refuses text beside them.
 #[cycle(reading)]
 fn array_in(alloc: Global, e: &Element, level: usize) -> Result<Shape, ReplyError>
     ensures { Finds (λ s. s) result (spec.array_in (spec.property_within level) e.now) }
@@ -112,6 +118,7 @@ fn shape_in(alloc: Global, type_name: &[u8], e: &Element, level: usize) -> Resul
     }
 }
 
+/// Reads a property, those in it of at most so many levels; refuses an element of another name.
 #[cycle(reading)]
 fn property_at(alloc: Global, e: &Element, level: usize) -> Result<Property, ReplyError>
     ensures { Finds (λ p. p) result (spec.property_around (spec.property_within level) e.now) }
@@ -127,6 +134,7 @@ fn property_at(alloc: Global, e: &Element, level: usize) -> Result<Property, Rep
     })
 }
 
+/// Reads a property of at most so many levels; refuses one of more.
 #[cycle(reading)]
 #[tactic(auto, unfolding(crate::specs::Readings::property_within))]
 fn property(alloc: Global, e: &Element, level: usize) -> Result<Property, ReplyError>

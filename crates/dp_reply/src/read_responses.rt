@@ -18,6 +18,7 @@ use dp_packet::{Body, BreakLine, Property, Response, StackLine};
 use dp_value::{Bytes, Items, Memory};
 use std::alloc::Global;
 
+/// Reads a frame of the stack; refuses an element of another name, or without one of the attributes.
 #[tactic(auto, unfolding(crate::specs::Readings::stack_in))]
 fn stack_in(alloc: Global, e: &Element) -> Result<StackLine, ReplyError>
     ensures { Finds (λ line. line) result (spec.stack_in e.now) }
@@ -33,6 +34,7 @@ fn stack_in(alloc: Global, e: &Element) -> Result<StackLine, ReplyError>
     })
 }
 
+/// Reads the name and the id of a context; refuses an element of another name, or without one of them.
 #[tactic(auto, unfolding(crate::specs::Readings::context_in))]
 fn context_in(alloc: Global, e: &Element) -> Result<(Bytes, u32), ReplyError>
     ensures { Finds (λ context. context) result (spec.context_in e.now) }
@@ -95,6 +97,7 @@ pub(crate) fn error_in(found: Option<&Element>, name: &[u8], most: u64) -> Resul
     }
 }
 
+/// Reads a body that is one error, for its code; refuses any other.
 fn fault_in(nodes: &[Node]) -> Result<Body, ReplyError>
     ensures { Finds (λ body. body) result (spec.fault_in (contents.elements nodes.now)) }
 {
@@ -102,30 +105,35 @@ fn fault_in(nodes: &[Node]) -> Result<Body, ReplyError>
     Ok(Body::Fault(code as u16))
 }
 
+/// Reads a body of frames of the stack; refuses any other element of DBGp's.
 fn stacks_in(alloc: Global, nodes: &[Node]) -> Result<Body, ReplyError>
     ensures { Finds (λ body. body) result (spec.stacks_in (contents.elements nodes.now)) }
 {
     Ok(Body::Stacks(entries(alloc, nodes)?))
 }
 
+/// Reads a body of contexts; refuses any other element of DBGp's.
 fn contexts_in(alloc: Global, nodes: &[Node]) -> Result<Body, ReplyError>
     ensures { Finds (λ body. body) result (spec.contexts_in (contents.elements nodes.now)) }
 {
     Ok(Body::Contexts(entries(alloc, nodes)?))
 }
 
+/// Reads a body of properties; refuses any other element of DBGp's.
 fn properties_in(alloc: Global, nodes: &[Node]) -> Result<Body, ReplyError>
     ensures { Finds (λ body. body) result (spec.properties_in (contents.elements nodes.now)) }
 {
     Ok(Body::Properties(entries(alloc, nodes)?))
 }
 
+/// Reads a body of breakpoints; refuses any other element of DBGp's.
 fn breakpoints_in(alloc: Global, nodes: &[Node]) -> Result<Body, ReplyError>
     ensures { Finds (λ body. body) result (spec.breakpoints_in (contents.elements nodes.now)) }
 {
     Ok(Body::Breakpoints(entries(alloc, nodes)?))
 }
 
+/// Reads a body of contexts, or else of properties, or else of breakpoints; refuses any other.
 #[tactic(auto, unfolding(crate::specs::Readings::rows_in))]
 fn rows_in(alloc: Global, nodes: &[Node]) -> Result<Body, ReplyError>
     ensures { Finds (λ body. body) result (spec.rows_in (contents.elements nodes.now)) }
@@ -174,6 +182,7 @@ fn is_own(name: &[u8]) -> bool
     !(is_namespace(name) || same_text(name, b"command") || same_text(name, b"transaction_id"))
 }
 
+/// Copies of the attributes that a response keeps, in their order.
 fn own_attributes(
     alloc: Global,
     attributes: &[(Bytes, Bytes)],

@@ -17,6 +17,7 @@ use dp_packet::{BreakLine, Init, Notify, Packet, ProxyReply, text_of};
 use dp_value::Bytes;
 use std::alloc::Global;
 
+/// Reads a session's first packet: the key and the file; refuses an element without one of them.
 #[tactic(auto, unfolding(crate::specs::Readings::init_in))]
 fn init_in(alloc: Global, e: &Element) -> Result<Init, ReplyError>
     ensures { Finds (λ init. init) result (spec.init_in e.now) }
@@ -26,6 +27,7 @@ fn init_in(alloc: Global, e: &Element) -> Result<Init, ReplyError>
     Ok(Init { idekey, fileuri })
 }
 
+/// Reads the program's output from base64; refuses any other text, and an element beside it.
 #[tactic(auto, unfolding(crate::specs::Readings::stream_in))]
 fn stream_in(alloc: Global, e: &Element) -> Result<Bytes, ReplyError>
     ensures { Finds (λ output. output) result (spec.stream_in e.now) }
@@ -34,6 +36,7 @@ fn stream_in(alloc: Global, e: &Element) -> Result<Bytes, ReplyError>
     bytes(alloc, text.as_slice())
 }
 
+/// Reads the breakpoint that a notification tells of, if it tells of one; refuses anything else in it.
 fn notified_in(alloc: Global, e: &Element) -> Result<Option<BreakLine>, ReplyError>
     ensures { Finds (λ told. told) result (spec.notified_in e.now) }
 {
@@ -43,6 +46,7 @@ fn notified_in(alloc: Global, e: &Element) -> Result<Option<BreakLine>, ReplyErr
     }
 }
 
+/// Reads a notification: its name, and the breakpoint that it tells of; refuses an element without a name.
 #[tactic(auto, unfolding(crate::specs::Readings::notify_in))]
 fn notify_in(alloc: Global, e: &Element) -> Result<Notify, ReplyError>
     ensures { Finds (λ notify. notify) result (spec.notify_in e.now) }
@@ -52,6 +56,7 @@ fn notify_in(alloc: Global, e: &Element) -> Result<Notify, ReplyError>
     Ok(Notify { name, breakpoint })
 }
 
+/// Reads a proxy's reply that the key is held: key, address and port; refuses an element without one of them.
 #[tactic(auto, unfolding(crate::specs::Readings::started_in))]
 fn started_in(alloc: Global, e: &Element) -> Result<ProxyReply, ReplyError>
     ensures { Finds (λ reply. reply) result (spec.started_in e.now) }
@@ -66,6 +71,7 @@ fn started_in(alloc: Global, e: &Element) -> Result<ProxyReply, ReplyError>
     })
 }
 
+/// Reads a proxy's reply that the key is no longer held; refuses an element without the key.
 #[tactic(auto, unfolding(crate::specs::Readings::stopped_in))]
 fn stopped_in(alloc: Global, e: &Element) -> Result<ProxyReply, ReplyError>
     ensures { Finds (λ reply. reply) result (spec.stopped_in e.now) }
@@ -74,6 +80,7 @@ fn stopped_in(alloc: Global, e: &Element) -> Result<ProxyReply, ReplyError>
     Ok(ProxyReply::Stopped { key })
 }
 
+/// Reads a proxy's refusal, for its number; refuses where its only element is no error with one.
 #[tactic(auto, unfolding(crate::specs::Readings::refused_in))]
 fn refused_in(stopping: bool, e: &Element) -> Result<ProxyReply, ReplyError>
     ensures { Finds (λ reply. reply) result (spec.refused_in stopping e.now) }
@@ -85,6 +92,7 @@ fn refused_in(stopping: bool, e: &Element) -> Result<ProxyReply, ReplyError>
     })
 }
 
+/// Reads a proxy's reply to a call to register or to stop; refuses an element that tells no success or failure.
 #[tactic(auto, unfolding(crate::specs::Readings::proxy_in))]
 fn proxy_in(alloc: Global, stopping: bool, e: &Element) -> Result<ProxyReply, ReplyError>
     ensures { Finds (λ reply. reply) result (spec.proxy_in stopping e.now) }

@@ -11,6 +11,7 @@ use itoa::Buffer;
 
 // ---- parts of a line
 
+/// The hexadecimal digit of a number below 16.
 fn digit(number: u8) -> u8
     requires { number < 16 }
     ensures { result ≡ digit_of number }
@@ -34,6 +35,7 @@ fn put_digits(text: &mut Vec<u8>, bytes: &[u8]) -> Result<(), Memory>
     Ok(())
 }
 
+/// Puts bytes in hexadecimal, or `-` where there are none.
 fn put_hex(text: &mut Vec<u8>, bytes: &[u8]) -> Result<(), Memory>
     ensures { OnOk result (text.new.items ≡ text.old.items ++ hex bytes.now) }
 {
@@ -45,6 +47,7 @@ fn put_hex(text: &mut Vec<u8>, bytes: &[u8]) -> Result<(), Memory>
     }
 }
 
+/// Puts a number in decimal.
 fn put_number(text: &mut Vec<u8>, number: u64) -> Result<(), Memory>
     ensures { OnOk result (text.new.items ≡ text.old.items ++ decimal number) }
 {
@@ -53,6 +56,7 @@ fn put_number(text: &mut Vec<u8>, number: u64) -> Result<(), Memory>
     Ok(())
 }
 
+/// Puts bytes as they stand.
 fn put(text: &mut Vec<u8>, bytes: &[u8]) -> Result<(), Memory>
     ensures { OnOk result (text.new.items ≡ text.old.items ++ bytes.now) }
 {
@@ -121,6 +125,7 @@ fn put_session(text: &mut Vec<u8>, link: u32, key: &[u8]) -> Result<(), Memory>
     put(text, key)
 }
 
+/// Puts why an engine was refused: `unknown`, `busy` with the session, or `full`; nothing for any other reason.
 fn put_reason(text: &mut Vec<u8>, why: &Refusal) -> Result<(), Memory>
     ensures { OnOk result (text.new.items ≡ text.old.items ++ spec.reason why.now) }
 {
@@ -170,6 +175,7 @@ pub(crate) fn admission(
     put(text, b"\n")
 }
 
+/// The number by which the transcript tells how a program ended, 210 where it was killed.
 fn status(outcome: Option<Outcome>) -> u64
     ensures { result ≡ spec.status outcome }
 {
