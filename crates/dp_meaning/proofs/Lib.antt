@@ -18,6 +18,8 @@ pub mod LoopLaws
 pub mod CallLaws
 pub mod OfBundle
 pub mod PureLaws
+pub mod TreeMomentless
+pub mod QuietLaws
 pub mod Exits
 pub mod ValueLaws
 pub mod Wholes

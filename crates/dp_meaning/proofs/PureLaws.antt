@@ -126,7 +126,7 @@ plain-keyed key item first keep array setting s =
 
 -- ---- whole trees
 
-both-true : (a b : Bool) → (a && b) ≡ true → (a ≡ true) × (b ≡ true)
+pub both-true : (a b : Bool) → (a && b) ≡ true → (a ≡ true) × (b ≡ true)
 both-true true true e = (refl, refl)
 both-true true false e = absurd (cc)
 both-true false b e = absurd (cc)

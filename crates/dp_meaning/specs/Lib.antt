@@ -4,5 +4,6 @@ pub mod Writes
 pub mod Trace
 pub mod Stops
 pub mod Pure
+pub mod Momentless
 pub mod Whole
 pub mod inner

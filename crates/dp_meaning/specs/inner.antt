@@ -5,3 +5,4 @@ pub mod Drive
 pub mod Evaluation
 pub mod Sizes
 pub mod Parts
+pub mod MomentlessParts

@@ -10,6 +10,7 @@ mod indices;
 mod literals;
 mod loops;
 mod moment_writes;
+mod momentless;
 mod moments;
 mod operators;
 mod outside;
@@ -24,6 +25,7 @@ mod writes;
 
 pub use dp_actions::{Halt, Signal};
 pub use moment_writes::{evaluation, write_all};
+pub use momentless::{all_momentless, is_momentless};
 pub use moments::moment_of;
 pub use runs::run_to;
 pub use stop::Stop;

@@ -3,9 +3,10 @@
 use crate::evaluator::Evaluator;
 use crate::pure::Unwatched;
 use dp_actions::{Halt, Signal};
+use dp_shared::Shared;
 use dp_state::State;
 use dp_tree::{Binding, Bundle, Expression, Statement};
-use dp_value::Value;
+use dp_value::{Items, Value};
 use std::alloc::Global;
 
 /// What parts of a program go by that are run whole from a state: a run has at most `bound` moments, and at most
@@ -100,5 +101,34 @@ impl Whole<'_> {
             bound: self.bound,
             depth: self.depth,
         }
+    }
+}
+
+impl Whole<'_> {
+    ghost use Rattle.std.specs.Prelude.{◌≡◌, true};
+    ghost use Rattle.std.specs.List.{list_all};
+    ghost use Rattle.dp_actions.specs.AtOnce.{AtOnce};
+    ghost use Rattle.dp_actions.specs.Expressions.{evaluation, evaluations};
+    ghost use Rattle.dp_meaning.specs.Momentless.{is_momentless};
+    ghost use Rattle.dp_meaning.specs.Programs.{setting_of};
+
+    /// The value of an expression in which no moment can come. It is evaluated at once.
+    pub fn value(&self, e: &Expression, state: &mut State) -> Result<Shared, Halt>
+        requires { is_momentless e.now ≡ true }
+        ensures { AtOnce (evaluation e.now (setting_of self.now.bundle.now self.now.bound self.now.depth) state.old)
+            result state.new }
+    {
+        let unwatched = Unwatched { bound: self.bound };
+        self.evaluator(&unwatched).expression(e, state)
+    }
+
+    /// The values of expressions in which no moment can come, one after another.
+    pub fn values(&self, all: &[Expression], state: &mut State) -> Result<Items<Shared>, Halt>
+        requires { list_all is_momentless all.now ≡ true }
+        ensures { AtOnce (evaluations all.now (setting_of self.now.bundle.now self.now.bound self.now.depth) state.old)
+            result state.new }
+    {
+        let unwatched = Unwatched { bound: self.bound };
+        self.evaluator(&unwatched).values(all, state)
     }
 }
