@@ -201,7 +201,7 @@ impl<'p> Machine<'p> {
     }
 
     /// What parts of the program are run by.
-    fn whole(&self) -> Whole<'p>
+    pub(crate) fn whole(&self) -> Whole<'p>
         ensures { result ≡ whole_of self.now }
     {
         Whole {

@@ -13,17 +13,20 @@ ghost use Rattle.dp_step_statements.specs.declared.work.Waiting.TheVariants as a
 ghost use Rattle.dp_step.specs.inner.Moves.{ends_call as call_ends, leave_if};
 
 use crate::machine::Machine;
-use dp_actions::{Halt, Signal, enter_call, enter_file, fatal, observe};
+use dp_actions::{Halt, Signal, enter_call, enter_file, fatal};
+use dp_meaning::{all_momentless, is_momentless};
 use dp_shared::Shared;
 use dp_state::{FatalKind, MomentKind, Outcome};
 use dp_step_parts::{Given, Hand as PartHand};
 use dp_step_statements::{Hand, Next, Small, Waiting, Work, first_of, receive};
-use dp_tree::{Bundle, Expression, Function, is_pure};
+use dp_tree::{Bundle, Expression, Function};
 use dp_value::{Items, Memory};
 use std::mem;
 
 impl<'p> Machine<'p> {
-    ghost use Rattle.std.specs.Prelude.{◌≡◌, ◌++◌, ◌∷◌, [], ◌<◌, Ok, OnOk};
+    ghost use Rattle.std.specs.Prelude.{◌≡◌, ◌++◌, ◌∷◌, [], ◌<◌, true, Ok, OnOk};
+    ghost use Rattle.std.specs.List.{list_all};
+    ghost use Rattle.dp_meaning.specs.Momentless.{is_momentless as has_no_moment};
     ghost use Rattle.dp_state.specs.declared.state.State.{State as AnyState};
     ghost use Rattle.dp_step.specs.Stands.{rest_of};
     ghost use Rattle.dp_step_statements.specs.declared.work.Hand.TheVariants as any_hand;
@@ -50,20 +53,54 @@ impl<'p> Machine<'p> {
         match part {
             PartHand::Give(given) => self.take(given),
             PartHand::Evaluate(e) => self.evaluate_whole(e),
+            PartHand::Values(before, all, at) => self.values_whole(before, all, at),
             part => self.first(Hand::Part(part)),
         }
     }
 
-    /// A small step with an expression. One that changes nothing is evaluated whole, in the state as it is.
+    /// A small step with an expression. One in which no moment can come is evaluated whole.
     fn evaluate_whole(&mut self, e: &'p Expression) -> Result<Option<(MomentKind, u32)>, Halt>
         ensures { Moves self.old (rest_with self.old (any_hand.Part (any_part.Evaluate e.entry)) self.old.state)
             result self.new }
     {
-        if !is_pure(e) {
+        if !is_momentless(e) {
             return self.first(Hand::Part(PartHand::Evaluate(e)));
         }
-        match observe(self.alloc, &self.state, e) {
+        match self.whole().value(e, &mut self.state) {
             Ok(value) => self.take(Given::Value(value)),
+            Err(why) => Err(why),
+        }
+    }
+
+    /// A small step with expressions that are left. All of them are evaluated whole where no moment can come in them.
+    fn values_whole(
+        &mut self,
+        before: Items<Shared>,
+        all: &'p Items<Expression>,
+        at: usize,
+    ) -> Result<Option<(MomentKind, u32)>, Halt>
+        ensures { Moves self.old (rest_with self.old (any_hand.Part (any_part.Values before all.entry at))
+            self.old.state) result self.new }
+    {
+        if at == 0 && before.as_slice().is_empty() && all_momentless(all.as_slice()) {
+            drop(before);
+            self.values_at_once(all)
+        } else {
+            self.first(Hand::Part(PartHand::Values(before, all, at)))
+        }
+    }
+
+    /// A small step with expressions in which no moment can come.
+    fn values_at_once(
+        &mut self,
+        all: &'p Items<Expression>,
+    ) -> Result<Option<(MomentKind, u32)>, Halt>
+        requires { list_all has_no_moment all.now ≡ true }
+        ensures { Moves self.old (rest_with self.old (any_hand.Part (any_part.Values [] all.entry 0)) self.old.state)
+            result self.new }
+    {
+        match self.whole().values(all.as_slice(), &mut self.state) {
+            Ok(values) => self.take(Given::Values(values)),
             Err(why) => Err(why),
         }
     }

@@ -3,22 +3,18 @@ use Rattle.dp_actions.specs.Expressions.{evaluation}
 use Rattle.dp_actions.proofs.AtOnceLaws.{first_done}
 use Rattle.dp_step_parts.specs.Rest.{to_value}
 use Rattle.dp_step.specs.inner.Moves.{follows_of, setting_at}
-use Rattle.dp_step.proofs.Smalls.{moves_as, taken_off}
+use Rattle.dp_step.proofs.Smalls.{moves_as, taken-moves}
 use Rattle.dp_step.proofs.machine.Machine.evaluate_whole.Goals as goal
 
 pub returns-in-Ok : goal.returns-in-Ok
 returns-in-Ok c =
     let m = c.args.self.now in
     moves_as m _ c.take.new.self _ _ c.take.result
-    (first_done (to_value (follows_of m)) (rw c.in-Ok.is at (c.observe.ensures (setting_at m)))) refl refl
+    (first_done (to_value (follows_of m)) (rw (c.in-Ok.is, c.whole.ensures) at c.value.ensures)) refl refl
     c.take.ensures
 
 pub returns-in-Err : goal.returns-in-Err
 returns-in-Err c =
-    let m = c.args.self.now in record {
-      by =
-          taken_off (evaluation c.args.e.now (setting_at m) m.state) (to_value (follows_of m)) c.in-Err.why m.state m
-          refl (rw c.in-Err.is at (c.observe.ensures (setting_at m)));
-      same_bundle = refl;
-      same_bound = refl;
-    }
+    let m = c.args.self.now in
+    taken-moves m _ _ (evaluation c.args.e.now (setting_at m) m.state) (to_value (follows_of m)) c.in-Err.why _ refl
+    refl refl refl (rw (c.in-Err.is, c.whole.ensures) at c.value.ensures)
