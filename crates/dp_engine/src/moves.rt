@@ -1,6 +1,7 @@
 //! A machine goes on to the first stop or to the end, and counts hits and steps.
 
 ghost use Rattle.std.specs.Prelude.{◌≡◌, ◌+◌, ◌<◌, ◌∷◌, ◌||◌, ℕ, List, [], length, None, true, false, IfOk, OnOk};
+ghost use Rattle.std.specs.List.{list_any};
 ghost use Rattle.dp_break.specs.StopRule.{held_after, one_stops};
 ghost use Rattle.dp_engine.specs.NextStop.{Reaches, reached_moment, stop_past, table_past};
 ghost use Rattle.dp_engine.specs.Stops.{stops};
@@ -12,7 +13,7 @@ ghost use Rattle.dp_tree.specs.declared.bundle.Bundle.{Bundle as SomeBundle};
 
 use crate::reached::Reached;
 use crate::stops::is_stop;
-use dp_break::Breaks;
+use dp_break::{Breakpoint, Breaks};
 use dp_command::Continuation;
 use dp_state::{Moment, State};
 use dp_step::{Machine, Progress, Steps};
@@ -41,8 +42,8 @@ fn pass(
 
 /// Where a machine comes to that goes on from the moment at which it stands, where it is this deep, and what is held of
 /// the breakpoints then: the first moment past it at which the command or a breakpoint stops, or the end. The hits are
-/// those of the moments up to there, each of which is passed once and takes one step. If none is held and the command
-/// is `run`, it goes as fast as a program that nothing stops.
+/// those of the moments up to there, each of which is passed once and takes one step. If none is enabled and the
+/// command is `run`, it goes as fast as a program that nothing stops.
 ///
 /// Once memory ran out nothing is said of the machine and of the breakpoints.
 pub fn go_on_from<L: Ledger>(
@@ -124,13 +125,25 @@ fn run_free<L: Ledger>(machine: &mut Machine, steps: &mut Steps<L>) -> Result<Re
 
 /// Whether neither the command nor a breakpoint stops at any moment.
 fn is_free(mode: Continuation, breaks: &Breaks) -> bool
-    ensures none { result ≡ true → breaks.now.held ≡ [] }
+    ensures none { result ≡ true → list_any (λ b. b.enabled) breaks.now.held ≡ false }
     ensures mode { result ≡ true → (depth : ℕ) (moment : AnyMoment) → stops mode depth moment ≡ false }
 {
     match mode {
-        Continuation::Run => breaks.list().is_empty(),
+        Continuation::Run => none_is_enabled(breaks.list()),
         Continuation::StepInto => false,
         Continuation::StepOver => false,
         Continuation::StepOut => false,
     }
+}
+
+/// Whether each of these breakpoints is disabled.
+fn none_is_enabled(held: &[Breakpoint]) -> bool
+    ensures { result ≡ true → list_any (λ b. b.enabled) held.now ≡ false }
+{
+    for breakpoint in held {
+        if breakpoint.enabled {
+            return false;
+        }
+    }
+    true
 }
