@@ -1,7 +1,6 @@
--- A recursion on a count of turns, beside a loop that counts up.
+-- The turns of the loop over a word.
 use Rattle.std.proofs.Common.{◌≡◌, ℕ, suc, ◌+◌, ◌<◌, List, ◌∷◌, length, get_or, drop, drop-cons, Ok, ap, ◌∙◌, arith}
 use Rattle.dp_markup.specs.inner.Input.{and_then, mark, word}
-pub use Rattle.dp_grammar.proofs.Turns.{one_turn, no_turn}
 
 -- one more byte of a word
 pub word_turn : (bytes ts more : List ℕ) (i a : ℕ) → i < length bytes → mark (get_or bytes i 0) ts ≡ Ok (a, more)

@@ -49,6 +49,7 @@ fn quoted(alloc: Global, input: &mut Input<'_>, quote: u8) -> Result<Growing<u8>
 }
 
 /// Reads the rest of a value, behind what was read of it, up to its quote.
+#[tactic(auto, using(dp_grammar::proofs::Turns::turns))]
 fn quoted_from(input: &mut Input<'_>, quote: u8, first: Growing<u8>) -> Result<Growing<u8>, Refusal>
     ensures { Reads (closed (spec.value_step quote) first input.old) result input.new }
 {
@@ -85,7 +86,7 @@ fn spaced_mark_step(input: &mut Input<'_>, byte: u8) -> Result<ControlFlow<u8, (
 }
 
 /// White space, and then this byte.
-#[tactic(auto, unfolding(crate::specs::inner::Readers::spaced_mark))]
+#[tactic(auto, using(dp_grammar::proofs::Turns::turns), unfolding(crate::specs::inner::Readers::spaced_mark))]
 pub(crate) fn spaced_mark(input: &mut Input<'_>, byte: u8) -> Result<u8, Refusal>
     ensures { Reads (spec.spaced_mark byte input.old) result input.new }
 {
@@ -115,7 +116,7 @@ fn spaced_value_step(
 }
 
 /// White space, and then a value.
-#[tactic(auto, unfolding(crate::specs::inner::Readers::spaced_value))]
+#[tactic(auto, using(dp_grammar::proofs::Turns::turns), unfolding(crate::specs::inner::Readers::spaced_value))]
 pub(crate) fn spaced_value(alloc: Global, input: &mut Input<'_>) -> Result<Growing<u8>, Refusal>
     ensures { Reads (spec.spaced_value input.old) result input.new }
 {
@@ -190,6 +191,7 @@ pub(crate) fn sees_end(input: &Input<'_>) -> bool
 }
 
 /// Reads the rest of a start tag of this name, behind what was read of it, to its end.
+#[tactic(auto, using(dp_grammar::proofs::Turns::turns))]
 fn tag_from(
     alloc: Global,
     input: &mut Input<'_>,

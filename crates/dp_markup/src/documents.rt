@@ -66,6 +66,7 @@ fn prolog_step(input: &mut Input<'_>, at_first: bool) -> Result<ControlFlow<u8, 
 }
 
 /// What stands before the root, and the root's `<`.
+#[tactic(auto, using(dp_grammar::proofs::Turns::turns), unfolding(crate::specs::inner::Readers::prolog))]
 pub(crate) fn prolog(input: &mut Input<'_>) -> Result<u8, Refusal>
     ensures { Reads (spec.prolog input.old) result input.new }
 {
@@ -110,6 +111,7 @@ fn trail_step(
 }
 
 /// What stands behind the root, to the end.
+#[tactic(auto, using(dp_grammar::proofs::Turns::turns), unfolding(crate::specs::inner::Readers::trail))]
 fn trail(input: &mut Input<'_>, root: Element) -> Result<Element, Refusal>
     ensures { Reads (spec.trail root input.old) result input.new }
 {

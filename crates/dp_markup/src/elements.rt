@@ -107,6 +107,7 @@ fn content_step(
 
 /// Reads the rest of what stands in an element, behind what was read of it, and the end tag.
 #[cycle(elements)]
+#[tactic(auto, using(dp_grammar::proofs::Turns::turns))]
 fn inside_from(
     alloc: Global,
     input: &mut Input<'_>,

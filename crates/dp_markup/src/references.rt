@@ -93,6 +93,7 @@ impl<'a> Input<'a> {
     }
 
     /// Reads the rest of a number, behind what was read of it, and its `;`.
+    #[tactic(auto, using(dp_grammar::proofs::Turns::turns))]
     fn number_from(&mut self, radix: Radix, first: u8) -> Result<u8, Refusal>
         ensures { Reads (closed (spec.number_step (behind_of radix)) first self.old) result self.new }
     {

@@ -38,7 +38,7 @@ fn pass_step(input: &mut Input<'_>, quote: u8) -> Result<ControlFlow<(), ()>, Re
 }
 
 /// Passes what is between quotes, behind the first.
-#[tactic(auto, unfolding(crate::specs::inner::Search::pass_quoted))]
+#[tactic(auto, using(dp_grammar::proofs::Turns::turns), unfolding(crate::specs::inner::Search::pass_quoted))]
 fn pass_quoted(input: &mut Input<'_>, quote: u8) -> Result<(), Refusal>
     ensures { Reads (spec.pass_quoted quote input.old) result input.new }
 {
@@ -75,7 +75,7 @@ fn spaced_pass_step(input: &mut Input<'_>) -> Result<ControlFlow<(), ()>, Refusa
 }
 
 /// Passes white space, and then a value.
-#[tactic(auto, unfolding(crate::specs::inner::Search::spaced_pass))]
+#[tactic(auto, using(dp_grammar::proofs::Turns::turns), unfolding(crate::specs::inner::Search::spaced_pass))]
 fn spaced_pass(input: &mut Input<'_>) -> Result<(), Refusal>
     ensures { Reads (spec.spaced_pass input.old) result input.new }
 {
@@ -197,6 +197,7 @@ fn sought_end(
 }
 
 /// Reads the rest of a start tag to its end, for the value that is sought, where the tag is the one asked for.
+#[tactic(auto, using(dp_grammar::proofs::Turns::turns))]
 fn sought_from<'a>(
     alloc: Global,
     input: &mut Input<'a>,

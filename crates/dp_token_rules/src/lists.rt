@@ -93,6 +93,7 @@ pub fn some_items<T: Drop, P: Piece<T>>(
 }
 
 /// The first item with those behind it, up to what closes them; one comma may stand before that.
+#[tactic(auto, using(dp_grammar::proofs::Turns::turns))]
 fn comma_turns<T: Drop, P: Piece<T>>(
     tokens: &mut Tokens<'_>,
     close: Terminal,
@@ -150,6 +151,7 @@ fn plain_step<T: Drop, P: Piece<T>>(
 }
 
 /// The first item with those behind it, each behind a comma, up to what closes them.
+#[tactic(auto, using(dp_grammar::proofs::Turns::turns))]
 fn plain_turns<T: Drop, P: Piece<T>>(
     tokens: &mut Tokens<'_>,
     close: Terminal,
@@ -203,7 +205,7 @@ pub fn any_plain_items<T: Drop, P: Piece<T>>(
 }
 
 /// Any number of pieces, each where a token of this sort comes next.
-#[tactic(auto, unfolding(crate::specs::inner::ListReaders::many))]
+#[tactic(auto, using(dp_grammar::proofs::Turns::turns), unfolding(crate::specs::inner::ListReaders::many))]
 pub fn many<T: Drop, P: Piece<T>>(
     alloc: Global,
     tokens: &mut Tokens<'_>,

@@ -1,35 +1,26 @@
 use Rattle.std.proofs.Common.{rules, arith, ◌∙◌, sym, subst}
 use Rattle.std.proofs.lemmas.Grind.{common_steps}
-use Rattle.dp_markup.specs.inner.Input.{Reads, until}
-use Rattle.dp_markup.specs.inner.Readers.{tag_step}
-use Rattle.dp_markup.proofs.Turns.{one_turn, no_turn}
+use Rattle.dp_markup.specs.inner.Input.{Reads}
 use Rattle.dp_markup.proofs.TagTurns.{tag_stops, tag_goes_on}
 use Rattle.dp_markup.proofs.attributes.tag_from.Goals as goal
 
 pub returns-then-sees_end : goal.returns-then-sees_end
 returns-then-sees_end c =
     let l = c.loop-turn in
-    let turn = one_turn (λ n. until (tag_step l.name) n l.state l.input) _ l._turn c.loop-turn-test.true l.invariant in
-    let e = turn ∙ tag_stops l.name l.state l.input _ (sym c.sees_end.ensures ∙ c.if-sees_end.true) in
+    let e = l.invariant ∙ tag_stops _ l._turn l.input c.loop-turn-test.true l.name l.state
+    (sym c.sees_end.ensures ∙ c.if-sees_end.true) in
     subst (λ o. Reads o c.tag_end.result c.tag_end.new.input) (sym e) c.tag_end.ensures
 
 pub returns-in_err-state : goal.returns-in_err-state
 returns-in_err-state c =
     let l = c.loop-turn in
-    let turn = one_turn (λ n. until (tag_step l.name) n l.state l.input) _ l._turn c.loop-turn-test.true l.invariant in
-    let e = turn ∙ tag_goes_on l.name l.state l.input _ (sym c.sees_end.ensures ∙ c.if-sees_end.false) in
+    let e = l.invariant ∙ tag_goes_on _ l._turn l.input c.loop-turn-test.true l.name l.state
+    (sym c.sees_end.ensures ∙ c.if-sees_end.false) in
     first_of (search rules, grind (arith, common_steps))
 
 pub loop-turn-preserved : goal.loop-turn-preserved
 loop-turn-preserved c =
     let l = c.loop-turn in
-    let turn = one_turn (λ n. until (tag_step l.name) n l.state l.input) _ l._turn c.loop-turn-test.true l.invariant in
-    let e = turn ∙ tag_goes_on l.name l.state l.input _ (sym c.sees_end.ensures ∙ c.if-sees_end.false) in
-    first_of (search rules, grind (arith, common_steps))
-
-pub returns : goal.returns
-unfolding until
-returns c =
-    let l = c.loop-turn in
-    let e = no_turn (λ n. until (tag_step l.name) n l.state l.input) _ l._turn c.loop-turn-test.false l.invariant in
+    let e = l.invariant ∙ tag_goes_on _ l._turn l.input c.loop-turn-test.true l.name l.state
+    (sym c.sees_end.ensures ∙ c.if-sees_end.false) in
     first_of (search rules, grind (arith, common_steps))
