@@ -74,7 +74,7 @@ impl<R: Inside> Grammar<R> {
 
     /// Reads the operators of this rank with their operands, up to where none comes next or may follow.
     #[cycle(ladder)]
-    #[tactic(auto, unfolding(crate::specs::inner::Readers::links_of))]
+    #[tactic(auto, using(dp_grammar::proofs::Turns::turns), unfolding(crate::specs::inner::Readers::links_of))]
     fn links_of(
         &self,
         tokens: &mut Tokens<'_>,

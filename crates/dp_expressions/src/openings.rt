@@ -56,6 +56,7 @@ impl<R: Inside> Grammar<R> {
     }
 
     /// Reads what begins with this variable: its indices, and `[]`, `++` or `--` behind them.
+    #[tactic(auto, using(dp_grammar::proofs::Turns::turns))]
     fn opening_from(&self, tokens: &mut Tokens<'_>, name: &[u8]) -> Result<Operand, Refusal>
         ensures { Reads (closed (within spec.opening_step self.now name.now) [] tokens.old) result tokens.new }
     {
