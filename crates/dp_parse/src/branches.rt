@@ -113,7 +113,7 @@ impl<R: Inside> Statements<R> {
     }
 
     /// What stands behind the first arm.
-    #[tactic(auto, unfolding(crate::specs::inner::StatementRules::arms))]
+    #[tactic(auto, using(dp_grammar::proofs::Turns::turns), unfolding(crate::specs::inner::StatementRules::arms))]
     fn arms(&self, tokens: &mut Tokens<'_>, first: (Items<Arm>, bool)) -> Result<Ended, Refusal>
         requires some { 0 < self.now.0 }
         ensures { Reads (within spec.arms self.now first tokens.old) result tokens.new }

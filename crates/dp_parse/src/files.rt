@@ -105,7 +105,7 @@ fn file_step(
 }
 
 /// The statements and the functions of a file, up to the end.
-#[tactic(auto, unfolding(crate::specs::inner::StatementRules::file))]
+#[tactic(auto, using(dp_grammar::proofs::Turns::turns), unfolding(crate::specs::inner::StatementRules::file))]
 pub(crate) fn file(alloc: Global, tokens: &mut Tokens<'_>) -> Result<Parts, Refusal>
     ensures { Reads (spec.file limits.limits tokens.old) result tokens.new }
 {

@@ -57,6 +57,7 @@ fn comma_step(
 }
 
 /// The first parameter with those behind it, up to the `)`; one comma may stand before that.
+#[tactic(auto, using(dp_grammar::proofs::Turns::turns))]
 fn comma_turns(alloc: Global, tokens: &mut Tokens<'_>, first: Names) -> Result<Names, Refusal>
     ensures { Reads (closed (lists.comma_step spec.checked Terminal.CloseParenthesis) first tokens.old) result
         tokens.new }

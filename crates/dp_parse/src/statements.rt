@@ -49,7 +49,7 @@ impl<R: Inside> Statements<R> {
     }
 
     /// Statements in so many loops, up to the closing brace.
-    #[tactic(auto, unfolding(crate::specs::inner::StatementRules::bodies))]
+    #[tactic(auto, using(dp_grammar::proofs::Turns::turns), unfolding(crate::specs::inner::StatementRules::bodies))]
     pub(crate) fn bodies(
         &self,
         tokens: &mut Tokens<'_>,

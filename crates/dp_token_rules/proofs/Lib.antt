@@ -5,5 +5,4 @@ pub mod Readers
 pub mod ListAnswers
 pub mod More
 pub mod TakenTokens
-pub mod Turns
 pub mod Verdicts
