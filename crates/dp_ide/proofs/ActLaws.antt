@@ -3,7 +3,8 @@ use Rattle.std.proofs.Common.{◌≡◌, ◌≢◌, ◌⊎◌, inl, inr, ℕ, �
 use Rattle.std.proofs.lemmas.Bool.{eqb-false, false≢true}
 use Rattle.std.proofs.lemmas.List.{append_cancel_left, length-drop, take-append-drop, take_all}
 use Rattle.dp_command.specs.declared.line.Line.{Line}
-use Rattle.dp_command.specs.Grammar.{Mark, Rule, ◌>>◌, spelt}
+use Rattle.dp_command.specs.Grammar.{spelt}
+use Rattle.dp_grammar.specs.Parts.{Part, Mark, ◌>>◌}
 use Rattle.dp_command.specs.Letters as letter
 use Rattle.dp_command.specs.Options.{given}
 use Rattle.dp_reply.specs.Contents.{most_16}
@@ -28,17 +29,17 @@ reads_as rule wider make xs ys into from (Some a) is =
 
 -- ---- behind a word
 
-marked : (mark rest : List ℕ) (rule : Rule) → rule rest → (Mark mark >> rule) (mark ++ rest)
+marked : (mark rest : List ℕ) (rule : Part ℕ) → rule rest → (Mark mark >> rule) (mark ++ rest)
 marked mark rest rule is = record { front = mark; back = rest; whole = refl; first = refl; second = is }
 
-unmarked : (mark rest : List ℕ) (rule : Rule) → (Mark mark >> rule) (mark ++ rest) → rule rest
+unmarked : (mark rest : List ℕ) (rule : Part ℕ) → (Mark mark >> rule) (mark ++ rest) → rule rest
 unmarked mark rest rule is =
     subst rule (append_cancel_left mark is.back rest (ap (λ l. l ++ is.back) (sym is.first) ∙ sym is.whole)) is.second
 
 abbrev Begins : List ℕ → List ℕ → Type 0
 Begins mark bytes = (rest : List ℕ) × (bytes ≡ mark ++ rest)
 
-begun : (mark bytes : List ℕ) (rule : Rule) → (Mark mark >> rule) bytes → Begins mark bytes
+begun : (mark bytes : List ℕ) (rule : Part ℕ) → (Mark mark >> rule) bytes → Begins mark bytes
 begun mark bytes rule is = (is.back, is.whole ∙ ap (λ l. l ++ is.back) is.first)
 
 apart : (a b : ℕ) (xs ys : List ℕ) → eqb a b ≡ false → a ∷ xs ≡ b ∷ ys → ⊥

@@ -3,7 +3,7 @@ use Rattle.std.proofs.Common.{◌≡◌, ◌≢◌, inl, inr, ℕ, Bool, true, f
 use Rattle.std.proofs.lemmas.Bool.{eqb-true, eqb-false, ne_eqb}
 use Rattle.dp_ide.specs.Scripts.{Behind, InText, Text, byte_of}
 use Rattle.dp_ide.specs.inner.Readers.{Reads, ReadsOn, escaped, first_of, in_hexadecimal}
-use Rattle.dp_reply.specs.Contents.{◌>>=◌}
+use Rattle.dp_grammar.specs.Prefixes.{◌>>=◌}
 
 -- two pairs that are one
 abbrev both : ℕ → List ℕ → Option (ℕ × List ℕ)

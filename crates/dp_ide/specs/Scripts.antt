@@ -1,13 +1,15 @@
 -- Scripts of the IDE: one instruction a line. Empty lines and lines that begin with `#` do nothing.
 use Rattle.std.specs.Prelude.{◌≡◌, ◌≢◌, ◌⊎◌, ℕ, ◌+◌, ◌*◌, ◌≤◌, true, List, [], ◌∷◌, length, Option, Some, codes}
 use Rattle.dp_command.specs.declared.line.Line.{Line}
-use Rattle.dp_command.specs.Grammar.{Rule, ◌>>◌, Mark, Repeated, spelt}
+use Rattle.dp_command.specs.Grammar.{spelt}
 use Rattle.dp_command.specs.Letters as letter
 use Rattle.dp_command.specs.Options.{given}
 use Rattle.dp_grammar.specs.Lines as lines
 use Rattle.dp_grammar.specs.Lines.{LineRule, Say, has_no_blank, is_idle, lines_of}
-use Rattle.dp_markup.specs.Classes.{hexadecimal_behind}
-use Rattle.dp_reply.specs.Contents.{◌>>=◌, most_16}
+use Rattle.dp_grammar.specs.Parts.{Part, ◌>>◌, Mark, Repeated}
+use Rattle.dp_grammar.specs.Prefixes.{◌>>=◌}
+use Rattle.dp_grammar.specs.Texts.{hexadecimal_behind}
+use Rattle.dp_reply.specs.Contents.{most_16}
 use Rattle.dp_value.specs.Decimals.{decimal_in}
 use Rattle.dp_wire.specs.Frames.{IsCommand}
 use Rattle.dp_ide.specs.declared.instruction.Act.{Act}
@@ -39,7 +41,7 @@ pub record InHexadecimal (byte : ℕ) (bytes : List ℕ) : Type 0 where
 
 -- A byte stands for itself, but for a backslash: `\n` is a line feed, `\\` a backslash, and `\xHH`
 -- any byte.
-abbrev pub InText : ℕ → Rule
+abbrev pub InText : ℕ → Part ℕ
 InText byte bytes =
     ((byte ≢ 92) × (bytes ≡ byte ∷ []))
     ⊎ ((byte ≡ 10) × (bytes ≡ codes "\\n"))
@@ -47,15 +49,15 @@ InText byte bytes =
     ⊎ InHexadecimal byte bytes
 
 -- TEXT, which may be empty
-abbrev pub Text : List ℕ → Rule
+abbrev pub Text : List ℕ → Part ℕ
 Text text = Repeated InText text
 
 -- [ SP TEXT ]
-abbrev pub Behind : List ℕ → Rule
+abbrev pub Behind : List ℕ → Part ℕ
 Behind text bytes = ((text ≡ []) × (bytes ≡ [])) ⊎ (Mark (codes " ") >> Text text) bytes
 
 -- N: a decimal up to 65,535
-abbrev pub Number : ℕ → Rule
+abbrev pub Number : ℕ → Part ℕ
 Number n bytes = decimal_in most_16 bytes ≡ Some n
 
 -- LINE: a command line with an `-i`; the id is the value of the first one, whatever it is
@@ -69,7 +71,7 @@ pub record Command (line id bytes : List ℕ) : Type 0 where
 -- ---- instructions
 
 -- the line of this act
-abbrev pub ActLine : Act → Rule
+abbrev pub ActLine : Act → Part ℕ
 ActLine (Send line id) = Mark (codes "send ") >> Command line id
 ActLine (Attr name text) = Mark (codes "attr ") >> Name name >> Behind text
 ActLine (Code n) = Mark (codes "code ") >> Number n

@@ -12,7 +12,7 @@ use dp_value::{Bytes, Memory, decimal};
 use std::alloc::Global;
 
 /// The number that a hexadecimal digit of either case is.
-#[tactic(auto, unfolding(dp_markup::specs::Classes::hexadecimal_behind))]
+#[tactic(auto, unfolding(dp_grammar::specs::Texts::hexadecimal_behind))]
 fn digit_of(byte: u8) -> Option<u8>
     ensures digit { result ≡ script.digit_of byte }
     ensures bound { IfSome result (λ digit. digit ≤ 15) }

@@ -1,7 +1,8 @@
 -- Which bytes are white space, digits and parts of names (XML 1.0, 2.3, within ASCII).
-use Rattle.std.specs.Prelude.{ℕ, ◌+◌, ◌-◌, ◌*◌, Bool, false, not, ◌&&◌, ◌||◌, ◌==◌, nat_le, if◌then◌else◌, List, [], ◌∷◌, Option, Some, None}
+use Rattle.std.specs.Prelude.{ℕ, Bool, false, not, ◌&&◌, ◌||◌, ◌==◌, List, [], ◌∷◌}
 use Rattle.std.specs.List.{list_all}
-pub use Rattle.dp_grammar.specs.Texts.{is_digit, is_letter}
+pub use Rattle.dp_grammar.specs.Texts.{is_digit, is_letter, within_byte}
+unfoldable pub use Rattle.dp_grammar.specs.Texts.{decimal_behind, hexadecimal_behind}
 
 -- space, tab, line feed, carriage return
 abbrev pub is_white : ℕ → Bool
@@ -29,19 +30,3 @@ is_plain_in_value quote b = not (b == 60 || b == 38 || b == quote)
 
 abbrev pub is_quote : ℕ → Bool
 is_quote b = b == 34 || b == 39
-
--- a number up to 255, else none
-abbrev pub within_byte : ℕ → Option ℕ
-within_byte n = if nat_le n 255 then Some n else None
-
--- the number that a decimal digit makes behind n
-unfoldable pub decimal_behind : ℕ → ℕ → Option ℕ
-decimal_behind n b = if is_digit b then within_byte (n * 10 + (b - 48)) else None
-
--- the number that a hexadecimal digit of either case makes behind n
-unfoldable pub hexadecimal_behind : ℕ → ℕ → Option ℕ
-hexadecimal_behind n b =
-    if is_digit b then within_byte (n * 16 + (b - 48))
-    else if nat_le 97 b && nat_le b 102 then within_byte (n * 16 + (b - 87))
-    else if nat_le 65 b && nat_le b 70 then within_byte (n * 16 + (b - 55))
-    else None

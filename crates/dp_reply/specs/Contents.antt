@@ -10,13 +10,9 @@ use Rattle.dp_markup.specs.declared.tree.Node.TheOpen.{Node-F}
 use Rattle.dp_markup.specs.declared.tree.Node.TheViews.{out-Node}
 use Rattle.dp_markup.specs.Grammar.{same_text, is_front_of, value_of}
 use Rattle.dp_packet.specs.Parts.{Text}
+pub use Rattle.dp_grammar.specs.Prefixes.{◌>>=◌}
 
 -- ---- what may be missing
-
-infixl 10 ◌>>=◌
-abbrev pub ◌>>=◌ : {A B : Type 0} → Option A → (A → Option B) → Option B
-None >>= f = None
-(Some a) >>= f = f a
 
 -- the one, or else the other
 infixr 9 ◌or◌

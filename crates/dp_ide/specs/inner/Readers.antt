@@ -1,10 +1,10 @@
 -- What a function that reads a part of a script answers.
 use Rattle.std.specs.Prelude.{◌≡◌, ◌⊎◌, ℕ, ◌≤◌, Bool, true, false, not, ◌==◌, if◌then◌else◌, List, [], ◌∷◌, ◌++◌, length, take, drop, Option, None, Some}
 use Rattle.std.specs.List.{list_all}
-use Rattle.dp_command.specs.Grammar.{Rule, ◌>>◌}
+use Rattle.dp_grammar.specs.Parts.{Part, ◌>>◌}
+use Rattle.dp_grammar.specs.Prefixes.{◌>>=◌}
 use Rattle.dp_ide.specs.declared.instruction.Instruction.{Instruction}
 use Rattle.dp_ide.specs.Scripts.{Behind, Name, Says, Text, byte_of}
-use Rattle.dp_reply.specs.Contents.{◌>>=◌}
 
 -- the one that the bytes spell by the rule, or that they spell none
 abbrev pub Reads : {A : Type 0} → (A → List ℕ → Type 0) → List ℕ → Option A → Type 0
@@ -43,7 +43,7 @@ pub record IsRun (mark : ℕ) (bytes : List ℕ) (count : ℕ) : Type 0 where
 
 -- ---- a name and a text
 
-abbrev pub IsNamed : List ℕ × List ℕ → Rule
+abbrev pub IsNamed : List ℕ × List ℕ → Part ℕ
 IsNamed named = Name named.0 >> Behind named.1
 
 -- ---- whole lines
