@@ -1,5 +1,4 @@
 pub mod ItemLaws
-pub mod Integers
 pub mod Found
 pub mod Again
 pub mod Written

@@ -15,7 +15,7 @@ use Rattle.dp_view.specs.Names.{index_of, entry_name, full_name}
 use Rattle.dp_view.specs.inner.Longer.{with_key}
 use Rattle.dp_view.specs.NameReader.{path_at}
 use Rattle.dp_view.proofs.Again.{path_again}
-use Rattle.dp_view.proofs.Integers.{int_is}
+use Rattle.dp_packet.proofs.Integers.{int_is}
 
 plain_byte : (b : ℕ) → (b == 34) ≡ false → (b == 92) ≡ false → (b == 0) ≡ false → is_plain 34 b ≡ true
 plain_byte b x y z = rw (x, y, z) refl
