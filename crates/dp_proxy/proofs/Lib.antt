@@ -6,3 +6,4 @@ pub mod HearLaws
 pub mod ActLaws
 pub mod ProxyLaws
 pub mod StepLaws
+pub mod HandedLaws

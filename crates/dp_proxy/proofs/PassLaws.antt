@@ -25,7 +25,7 @@ pub stream_push : (kind : LaneKind) (acts : List Act) (act : Act)
 stream_push kind acts act =
     flat_map-append (brought kind) acts (act ∷ []) ∙ ap (λ l. stream kind acts ++ l) (append-nil (brought kind act))
 
-stream_same : (kind : LaneKind) (acts : List Act) (act : Act) → brought kind act ≡ []
+pub stream_same : (kind : LaneKind) (acts : List Act) (act : Act) → brought kind act ≡ []
     → stream kind acts ≡ stream kind (acts ++ act ∷ [])
 stream_same kind acts act none =
     sym (stream_push kind acts act ∙ ap (λ l. stream kind acts ++ l) none ∙ append-nil (stream kind acts))

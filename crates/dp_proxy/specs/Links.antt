@@ -50,3 +50,21 @@ passed acts (Engine key) = Some Nothing
 abbrev pub ends : List Act → Act → Bool
 ends acts Closed = true
 ends acts act = is_none (passed acts act)
+
+-- ---- what all acts hand out
+
+-- the bytes that an effect hands out in a lane
+abbrev pub bytes_of : LaneKind → Option Effect → List ℕ
+bytes_of Up (Some (ToIde frames)) = frames
+bytes_of Down (Some (ToEngine commands)) = commands
+bytes_of kind other = []
+
+-- what these acts lead to in a lane, one after another, behind those before them
+abbrev pub handed_behind : LaneKind → List Act → List Act → List ℕ
+handed_behind kind before [] = []
+handed_behind kind before (act ∷ acts) =
+    bytes_of kind (passed before act) ++ handed_behind kind (before ++ act ∷ []) acts
+
+-- all that is handed out in a lane
+abbrev pub all_handed : LaneKind → List Act → List ℕ
+all_handed kind acts = handed_behind kind [] acts
