@@ -5,8 +5,7 @@ use Rattle.std.proofs.lemmas.List.{take-append-le, take-append-drop}
 use Rattle.std.proofs.lemmas.List.Concat.{flat_map-append}
 use Rattle.std.proofs.Math.Seq.{take-append_seam, drop-append_seam}
 use Rattle.std.specs.List.{AllByRecursion}
-use Rattle.dp_tree.specs.declared.bundle.Bundle.{Bundle}
-use Rattle.dp_engine.specs.Served.{alone}
+use Rattle.dp_world.specs.Alone.{Engines, alone}
 use Rattle.dp_wire.specs.Frames.{Splits, IsCommand, command_frame, commands_in, rest_of, packet_frame, packets_in, rest_of_packets}
 use Rattle.dp_wire.proofs.SplitLaws.{commands_split, one_split_lem}
 use Rattle.dp_wire.proofs.PacketLaws.{packets_split}
@@ -109,12 +108,12 @@ module _ (acts : List Act) (act : Act) where
 front_stays : (n : ℕ) (sent rest : List ℕ) → n ≤ length sent → take n (sent ++ rest) ≡ take n sent
 front_stays n sent rest small = take-append-le n sent rest small
 
-module _ (bundle : Bundle) (bound : ℕ) (key : List ℕ) (acts : List Act) (engine : Engine)
-    (stands : IsEngineAfter bundle bound key acts engine) where
+module _ {S E : Type 0} (engines : Engines S E) (key : List ℕ) (acts : List Act) (engine : Engine S E)
+    (stands : IsEngineAfter engines key acts engine) where
   -- ---- what is read
 
   module _ (count : ℕ) (piece : List ℕ) (is : piece ≡ take count (drop engine.read engine.sent.items)) where
-    abbrev read_on : Engine
+    abbrev read_on : Engine S E
     read_on = record engine { read = engine.read + length piece }
 
     still_within : engine.read + length piece ≤ length engine.sent.items
@@ -128,7 +127,7 @@ module _ (bundle : Bundle) (bound : ℕ) (key : List ℕ) (acts : List Act) (eng
               engine.sent.items,
         )
 
-    pub read_stands : IsEngineAfter bundle bound key acts read_on
+    pub read_stands : IsEngineAfter engines key acts read_on
     read_stands = record {
       serves = record {
         sent = stands.serves.sent;
@@ -147,7 +146,7 @@ module _ (bundle : Bundle) (bound : ℕ) (key : List ℕ) (acts : List Act) (eng
       so_far : stream Up acts ≡ take engine.read engine.sent.items
       so_far = stands.up ∙ ap (λ (n : ℕ). take n engine.sent.items) (sym all)
 
-      pub read_sent : piece ≡ take count (drop (length (stream Up acts)) (alone bundle bound key (stream Down acts)))
+      pub read_sent : piece ≡ take count (drop (length (stream Up acts)) (alone engines key (stream Down acts)))
       read_sent =
           is ∙ ap (λ (n : ℕ). take count (drop n engine.sent.items)) all ∙ ap
           (λ s. take count (drop (length (stream Up acts)) s)) stands.serves.sent
@@ -192,11 +191,11 @@ module _ (bundle : Bundle) (bound : ℕ) (key : List ℕ) (acts : List Act) (eng
   -- ---- after the act
 
   module _ (act : Act) (ready : IsReadWith acts act engine) where
-    acted : (after : Engine) (rest : List ℕ)
-        → Serves bundle bound key (commands_in (stream Down (acts ++ act ∷ []))) after
+    acted : (after : Engine S E) (rest : List ℕ)
+        → Serves engines key (commands_in (stream Down (acts ++ act ∷ []))) after
         → after.sent.items ≡ engine.sent.items ++ rest → after.read ≡ engine.read
         → after.received ≡ engine.received + length (handed Up acts act)
-        → IsEngineAfter bundle bound key (acts ++ act ∷ []) after × IsReadFor (acts ++ act ∷ []) after
+        → IsEngineAfter engines key (acts ++ act ∷ []) after × IsReadFor (acts ++ act ∷ []) after
     acted after rest serves more read received =
         let all = ready.all in
         let small = stands.read in
@@ -215,9 +214,9 @@ module _ (bundle : Bundle) (bound : ℕ) (key : List ℕ) (acts : List Act) (eng
         )
 
     pub stays : handed Down acts act ≡ [] → handed Up acts act ≡ []
-        → IsEngineAfter bundle bound key (acts ++ act ∷ []) engine × IsReadFor (acts ++ act ∷ []) engine
+        → IsEngineAfter engines key (acts ++ act ∷ []) engine × IsReadFor (acts ++ act ∷ []) engine
     stays down up =
-        acted engine [] (subst (λ l. Serves bundle bound key l engine)
+        acted engine [] (subst (λ l. Serves engines key l engine)
         (sym (same_texts Down acts act down)) stands.serves) (sym (append-nil engine.sent.items)) refl
         (let none = ap length up in omega arith)
 
@@ -235,32 +234,32 @@ module _ (bundle : Bundle) (bound : ℕ) (key : List ℕ) (acts : List Act) (eng
         )
 
     pub receives : brought Down act ≡ []
-        → IsEngineAfter bundle bound key (acts ++ act
+        → IsEngineAfter engines key (acts ++ act
         ∷ []) (record engine { received = engine.received + length (handed Up acts act) })
         × IsReadFor (acts ++ act ∷ []) (record engine { received = engine.received + length (handed Up acts act) })
     receives none =
-        let s : Serves bundle bound key (commands_in (stream Down (acts ++ act ∷ []))) engine =
-        subst (λ l. Serves bundle bound key l engine) (sym (same_texts Down acts act
+        let s : Serves engines key (commands_in (stream Down (acts ++ act ∷ []))) engine =
+        subst (λ l. Serves engines key l engine) (sym (same_texts Down acts act
         (nothing_handed Down acts act none))) stands.serves in
         acted (record engine { received = engine.received + length (handed Up acts act) }) []
         (record { sent = s.sent; own = s.own; session = s.session; ended = s.ended; given = s.given })
         (sym (append-nil engine.sent.items)) refl refl
 
-    pub takes : (after : Engine) → brought Up act ≡ [] → EngineTakes engine (handed Down acts act) after
-        → IsEngineAfter bundle bound key (acts ++ act ∷ []) after × IsReadFor (acts ++ act ∷ []) after
+    pub takes : (after : Engine S E) → brought Up act ≡ [] → EngineTakes engines engine (handed Down acts act) after
+        → IsEngineAfter engines key (acts ++ act ∷ []) after × IsReadFor (acts ++ act ∷ []) after
     takes after none t =
-        let serves : Serves bundle bound key (commands_in (stream Down (acts ++ act ∷ []))) after =
-        subst (λ l. Serves bundle bound key l after) (down_lines acts act)
-        (t.serves bundle bound key (commands_in (stream Down acts)) stands.serves) in
-        let g = grows bundle bound key (stream Down acts) (brought Down act) in
+        let serves : Serves engines key (commands_in (stream Down (acts ++ act ∷ []))) after =
+        subst (λ l. Serves engines key l after) (down_lines acts act)
+        (t.serves key (commands_in (stream Down acts)) stands.serves) in
+        let g = grows engines key (stream Down acts) (brought Down act) in
         let sent : after.sent.items ≡ engine.sent.items ++ g.0 =
-        serves.sent ∙ ap (alone bundle bound key) (stream_push Down acts act) ∙ g.1 ∙ ap (λ l. l ++ g.0)
+        serves.sent ∙ ap (alone engines key) (stream_push Down acts act) ∙ g.1 ∙ ap (λ l. l ++ g.0)
         (sym stands.serves.sent) in
         acted after g.0 serves sent t.read (let nothing = ap length
         (nothing_handed Up acts act none) in let same = t.received in omega arith)
 
-pub begun : (bundle : Bundle) (bound : ℕ) (key : List ℕ) (engine : Engine) → Serves bundle bound key [] engine
+pub begun : {S E : Type 0} (engines : Engines S E) (key : List ℕ) (engine : Engine S E) → Serves engines key [] engine
     → engine.read ≡ 0 → engine.received ≡ 0
-    → IsEngineAfter bundle bound key [] engine × IsReadFor [] engine
-begun bundle bound key engine serves read received =
+    → IsEngineAfter engines key [] engine × IsReadFor [] engine
+begun engines key engine serves read received =
     (record { serves = serves; up = refl; received = received; within = omega arith; read = omega arith }, read)

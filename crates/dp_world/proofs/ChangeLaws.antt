@@ -2,7 +2,6 @@
 use Rattle.std.proofs.Common.{◌≡◌, ◌⊎◌, ℕ, Bool, true, false, List, [], ◌∷◌, ◌++◌, ◌+◌, length, take, drop, Option, Some, None, is_none, refl, sym, ap, subst, ◌∙◌, inl, inr}
 use Rattle.std.proofs.lemmas.Bool.{false≢true}
 use Rattle.std.proofs.lemmas.Option.{same_Some}
-use Rattle.dp_tree.specs.declared.bundle.Bundle.{Bundle}
 use Rattle.dp_registry.specs.declared.entry.Entry.{Entry}
 use Rattle.dp_registry.specs.declared.pass.Pass.{Pass}
 use Rattle.dp_lanes.specs.declared.lane.LaneKind.TheVariants.{Up, Down}
@@ -16,6 +15,7 @@ use Rattle.dp_proxy.specs.Replies.{reply_frame}
 use Rattle.dp_proxy.specs.Invariant.{IsOver}
 use Rattle.dp_proxy.proofs.ActLaws.{ide_comes, engine_comes, given_before, moved_before, closed_before, heard_more, heard_all, joined_on, joined_over, over_still}
 use Rattle.dp_registry.specs.Verdicts.{admit_verdict}
+use Rattle.dp_world.specs.Alone.{Engines}
 use Rattle.dp_world.specs.declared.engine.Engine.{Engine}
 use Rattle.dp_world.specs.declared.shown.Shown.{Shown}
 use Rattle.dp_world.specs.declared.shown.Shown.TheVariants.{Registration, Refused as Turned_away, Session}
@@ -52,37 +52,38 @@ ends_told acts (Moved bytes) e t is = absurd (false≢true (ap is_none (sym is) 
 ends_told acts (Ide host) e t is = absurd (false≢true t)
 ends_told acts (Comes key) e t is = absurd (false≢true t)
 
-idle_taken : (host reply : List ℕ) (e : Effect) → IsTaken (Registration host reply) e
-idle_taken host reply Nothing = tt
-idle_taken host reply (Reply frame) = tt
-idle_taken host reply (Admitted session name port) = tt
-idle_taken host reply (Turned why) = tt
-idle_taken host reply (ToEngine commands) = tt
-idle_taken host reply (ToIde frames) = tt
+idle_taken : (S E : Type 0) (host reply : List ℕ) (e : Effect) → IsTaken {S = S} {E = E} (Registration host reply) e
+idle_taken S E host reply Nothing = tt
+idle_taken S E host reply (Reply frame) = tt
+idle_taken S E host reply (Admitted session name port) = tt
+idle_taken S E host reply (Turned why) = tt
+idle_taken S E host reply (ToEngine commands) = tt
+idle_taken S E host reply (ToIde frames) = tt
 
-module _ (bundle : Bundle) (bound : ℕ) (journal : List Entry) (act : Act) where
+module _ {S E : Type 0} (engines : Engines S E) (journal : List Entry) (act : Act) where
   abbrev led : Link → Lead
   led link = lead journal link act
 
   -- nothing comes of it
-  module _ (kept : Shown) (link next : Link) (turned : led link ≡ without_effect journal next) (e : Effect)
+  module _ (kept : Shown S E) (link next : Link) (turned : led link ≡ without_effect journal next) (e : Effect)
       (is : (led link).effect ≡ Some e) where
     no_effect : e ≡ Nothing
     no_effect = sym (same_Some Nothing e (sym (ap (λ (t : Lead). t.effect) turned) ∙ is))
 
-    still : (now : Shown) → IsShown bundle bound next kept → After kept e now → IsShown bundle bound (led link).link now
+    still : (now : Shown S E) → IsShown engines next kept → After engines kept e now
+        → IsShown engines (led link).link now
     still now shown after =
-        let stays : now ≡ kept = subst (λ (x : Effect). After kept x now) no_effect after in
-        subst (λ (l : Link). IsShown bundle bound l now) (sym (ap (λ (t : Lead). t.link) turned))
-        (subst (IsShown bundle bound next) (sym stays) shown)
+        let stays : now ≡ kept = subst (λ (x : Effect). After engines kept x now) no_effect after in
+        subst (λ (l : Link). IsShown engines l now) (sym (ap (λ (t : Lead). t.link) turned))
+        (subst (IsShown engines next) (sym stays) shown)
 
   -- ---- an IDE that asks
 
   module _ (name heard host reply : List ℕ) (p : host ≡ name) (q : reply ≡ []) (e : Effect)
-      (is : (led (Asking name heard)).effect ≡ Some e) (now : Shown)
-      (after : After (Registration host reply) e now) where
+      (is : (led (Asking name heard)).effect ≡ Some e) (now : Shown S E)
+      (after : After engines (Registration host reply) e now) where
     asked_shown : (o : Option (List ℕ)) → question heard act ≡ o
-        → IsShown bundle bound (led (Asking name heard)).link now
+        → IsShown engines (led (Asking name heard)).link now
     asked_shown None none =
         still (Registration host reply) (Asking name heard) (listening name heard act)
         (heard_more journal name heard act (listening name heard act) none refl) e is now
@@ -91,79 +92,80 @@ module _ (bundle : Bundle) (bound : ℕ) (journal : List Entry) (act : Act) wher
         let turned = heard_all journal name heard act command some in
         let frame : List ℕ = reply_frame journal name command in
         let same : e ≡ Reply frame = sym (same_Some (Reply frame) e (sym (ap (λ (t : Lead). t.effect) turned) ∙ is)) in
-        let put : now ≡ Registration host frame = subst (λ (x : Effect). After (Registration host reply) x now) same
+        let put : now ≡ Registration host frame =
+        subst (λ (x : Effect). After engines (Registration host reply) x now) same
         after in
-        subst (λ (l : Link). IsShown bundle bound l now) (sym (ap (λ (t : Lead). t.link) turned))
-        (subst (IsShown bundle bound (Settled name frame)) (sym put) (p, refl))
+        subst (λ (l : Link). IsShown engines l now) (sym (ap (λ (t : Lead). t.link) turned))
+        (subst (IsShown engines (Settled name frame)) (sym put) (p, refl))
 
   -- ---- a session
 
-  module _ (key : List ℕ) (pass : Pass) (acts : List Act) (name host : List ℕ) (port : ℕ) (engine : Engine)
+  module _ (key : List ℕ) (pass : Pass) (acts : List Act) (name host : List ℕ) (port : ℕ) (engine : Engine S E)
       (to : IsTo key pass name host port)
-      (stands : IsEngineAfter bundle bound key acts engine) (ready : IsReadWith acts act engine) where
-    abbrev kept : Shown
+      (stands : IsEngineAfter engines key acts engine) (ready : IsReadWith acts act engine) where
+    abbrev kept : Shown S E
     kept = Session name host port engine
 
-    over_shown : ends acts act ≡ true → (e : Effect) (now : Shown) → (led (Joined key pass acts)).effect ≡ Some e
-        → After kept e now
-        → IsShown bundle bound (led (Joined key pass acts)).link now
+    over_shown : ends acts act ≡ true → (e : Effect) (now : Shown S E) → (led (Joined key pass acts)).effect ≡ Some e
+        → After engines kept e now
+        → IsShown engines (led (Joined key pass acts)).link now
     over_shown t e now is after =
         let turned = joined_over journal key pass acts act t in
         let none : e ≡ Nothing = ends_told acts act e t (sym (ap (λ (x : Lead). x.effect) turned) ∙ is) in
-        let stays : now ≡ kept = subst (λ (x : Effect). After kept x now) none after in
-        subst (λ (l : Link). IsShown bundle bound l now) (sym (ap (λ (x : Lead). x.link) turned))
-        (subst (IsShown bundle bound (Ended key pass acts)) (sym stays) (to, stands))
+        let stays : now ≡ kept = subst (λ (x : Effect). After engines kept x now) none after in
+        subst (λ (l : Link). IsShown engines l now) (sym (ap (λ (x : Lead). x.link) turned))
+        (subst (IsShown engines (Ended key pass acts)) (sym stays) (to, stands))
 
-  module _ (key : List ℕ) (pass : Pass) (acts : List Act) (name host : List ℕ) (port : ℕ) (engine : Engine)
+  module _ (key : List ℕ) (pass : Pass) (acts : List Act) (name host : List ℕ) (port : ℕ) (engine : Engine S E)
       (to : IsTo key pass name host port)
-      (stands : IsEngineAfter bundle bound key acts engine) where
-    passed_on : (a : Act) → IsReadWith acts a engine → ends acts a ≡ false → (e : Effect) (now : Shown)
-        → passed acts a ≡ Some e → After (Session name host port engine) e now
-        → IsShown bundle bound (Joined key pass (acts ++ a ∷ [])) now
+      (stands : IsEngineAfter engines key acts engine) where
+    passed_on : (a : Act) → IsReadWith acts a engine → ends acts a ≡ false → (e : Effect) (now : Shown S E)
+        → passed acts a ≡ Some e → After engines (Session name host port engine) e now
+        → IsShown engines (Joined key pass (acts ++ a ∷ [])) now
     passed_on (Given bytes) ready t e now is after =
         by (told_is ToEngine (handed Down acts (Given bytes)) (is_broken (acts ++ Given bytes ∷ [])) e is) where
           none_up : handed Up acts (Given bytes) ≡ []
           none_up = act_law.nothing_handed Up acts (Given bytes) refl
 
           by : ((handed Down acts (Given bytes) ≡ []) × (e ≡ Nothing)) ⊎ (e ≡ ToEngine (handed Down acts (Given bytes)))
-              → IsShown bundle bound (Joined key pass (acts ++ Given bytes ∷ [])) now
+              → IsShown engines (Joined key pass (acts ++ Given bytes ∷ [])) now
           by (inl none) =
               let stays : now ≡ Session name host port engine = subst
-              (λ (x : Effect). After (Session name host port engine) x now) none.1 after in
-              let s = act_law.stays bundle bound key acts engine stands (Given bytes) ready none.0 none_up in
-              subst (IsShown bundle bound (Joined key pass (acts ++ Given bytes ∷ []))) (sym stays) (to, s.0, s.1)
+              (λ (x : Effect). After engines (Session name host port engine) x now) none.1 after in
+              let s = act_law.stays engines key acts engine stands (Given bytes) ready none.0 none_up in
+              subst (IsShown engines (Joined key pass (acts ++ Given bytes ∷ []))) (sym stays) (to, s.0, s.1)
           by (inr same) =
-              let taken = subst (λ (x : Effect). After (Session name host port engine) x now) same after in
-              let s = act_law.takes bundle bound key acts engine stands (Given bytes) ready taken.0 refl taken.2 in
-              subst (IsShown bundle bound (Joined key pass (acts ++ Given bytes ∷ []))) (sym taken.1) (to, s.0, s.1)
+              let taken = subst (λ (x : Effect). After engines (Session name host port engine) x now) same after in
+              let s = act_law.takes engines key acts engine stands (Given bytes) ready taken.0 refl taken.2 in
+              subst (IsShown engines (Joined key pass (acts ++ Given bytes ∷ []))) (sym taken.1) (to, s.0, s.1)
     passed_on (Moved bytes) ready t e now is after =
         by (told_is ToIde (handed Up acts (Moved bytes)) (is_broken (acts ++ Moved bytes ∷ [])) e is) where
           none_down : handed Down acts (Moved bytes) ≡ []
           none_down = act_law.nothing_handed Down acts (Moved bytes) refl
 
           by : ((handed Up acts (Moved bytes) ≡ []) × (e ≡ Nothing)) ⊎ (e ≡ ToIde (handed Up acts (Moved bytes)))
-              → IsShown bundle bound (Joined key pass (acts ++ Moved bytes ∷ [])) now
+              → IsShown engines (Joined key pass (acts ++ Moved bytes ∷ [])) now
           by (inl none) =
               let stays : now ≡ Session name host port engine = subst
-              (λ (x : Effect). After (Session name host port engine) x now) none.1 after in
-              let s = act_law.stays bundle bound key acts engine stands (Moved bytes) ready none_down none.0 in
-              subst (IsShown bundle bound (Joined key pass (acts ++ Moved bytes ∷ []))) (sym stays) (to, s.0, s.1)
+              (λ (x : Effect). After engines (Session name host port engine) x now) none.1 after in
+              let s = act_law.stays engines key acts engine stands (Moved bytes) ready none_down none.0 in
+              subst (IsShown engines (Joined key pass (acts ++ Moved bytes ∷ []))) (sym stays) (to, s.0, s.1)
           by (inr same) =
-              let put = subst (λ (x : Effect). After (Session name host port engine) x now) same after in
-              let s = act_law.receives bundle bound key acts engine stands (Moved bytes) ready refl in
-              subst (IsShown bundle bound (Joined key pass (acts ++ Moved bytes ∷ []))) (sym put) (to, s.0, s.1)
+              let put = subst (λ (x : Effect). After engines (Session name host port engine) x now) same after in
+              let s = act_law.receives engines key acts engine stands (Moved bytes) ready refl in
+              subst (IsShown engines (Joined key pass (acts ++ Moved bytes ∷ []))) (sym put) (to, s.0, s.1)
     passed_on (Ide other) ready t e now is after =
         let stays : now ≡ Session name host port engine = subst
-        (λ (x : Effect). After (Session name host port engine) x now) (sym (same_Some Nothing e is)) after in
-        let s = act_law.stays bundle bound key acts engine stands (Ide other) ready
+        (λ (x : Effect). After engines (Session name host port engine) x now) (sym (same_Some Nothing e is)) after in
+        let s = act_law.stays engines key acts engine stands (Ide other) ready
         (act_law.nothing_handed Down acts (Ide other) refl) (act_law.nothing_handed Up acts (Ide other) refl) in
-        subst (IsShown bundle bound (Joined key pass (acts ++ Ide other ∷ []))) (sym stays) (to, s.0, s.1)
+        subst (IsShown engines (Joined key pass (acts ++ Ide other ∷ []))) (sym stays) (to, s.0, s.1)
     passed_on (Comes other) ready t e now is after =
         let stays : now ≡ Session name host port engine = subst
-        (λ (x : Effect). After (Session name host port engine) x now) (sym (same_Some Nothing e is)) after in
-        let s = act_law.stays bundle bound key acts engine stands (Comes other) ready
+        (λ (x : Effect). After engines (Session name host port engine) x now) (sym (same_Some Nothing e is)) after in
+        let s = act_law.stays engines key acts engine stands (Comes other) ready
         (act_law.nothing_handed Down acts (Comes other) refl) (act_law.nothing_handed Up acts (Comes other) refl) in
-        subst (IsShown bundle bound (Joined key pass (acts ++ Comes other ∷ []))) (sym stays) (to, s.0, s.1)
+        subst (IsShown engines (Joined key pass (acts ++ Comes other ∷ []))) (sym stays) (to, s.0, s.1)
     passed_on Closed ready t e now is after = absurd (false≢true (sym t))
 
     -- what may be passed on
@@ -183,7 +185,7 @@ module _ (bundle : Bundle) (bound : ℕ) (journal : List Entry) (act : Act) wher
           by (inl none) = subst (IsTaken (Session name host port engine)) (sym none.1) tt
           by (inr same) =
               subst (IsTaken (Session name host port engine)) (sym same)
-              (act_law.may_receive bundle bound key acts engine stands (Moved bytes) ready)
+              (act_law.may_receive engines key acts engine stands (Moved bytes) ready)
     may_take (Ide other) ready t e is = subst (IsTaken (Session name host port engine)) (same_Some Nothing e is) tt
     may_take (Comes other) ready t e is = subst (IsTaken (Session name host port engine)) (same_Some Nothing e is) tt
     may_take Closed ready t e is = absurd (false≢true (sym t))
@@ -193,9 +195,9 @@ module _ (bundle : Bundle) (bound : ℕ) (journal : List Entry) (act : Act) wher
   over_without_effect : (link : Link) → IsOver link → led link ≡ without_effect journal link
   over_without_effect link over = over_still journal link act over
 
-  shown_passed : (kept : Shown) (link : Link) → IsReady bundle bound link act kept → (e : Effect) (now : Shown)
-      → (led link).effect ≡ Some e → After kept e now
-      → IsShown bundle bound (led link).link now
+  shown_passed : (kept : Shown S E) (link : Link) → IsReady engines link act kept → (e : Effect) (now : Shown S E)
+      → (led link).effect ≡ Some e → After engines kept e now
+      → IsShown engines (led link).link now
   shown_passed (Registration host reply) (Asking name heard) r e now is after =
       asked_shown name heard host reply r.0 r.1 e is now after (question heard act) refl
   shown_passed (Registration host reply) (Settled name answer) r e now is after =
@@ -208,11 +210,11 @@ module _ (bundle : Bundle) (bound : ℕ) (journal : List Entry) (act : Act) wher
   shown_passed (Turned_away key why) link r e now is after =
       still (Turned_away key why) link link (over_without_effect link (subst IsOver (sym r) tt)) e is now r after
   shown_passed (Session name host port engine) (Joined key pass acts) r e now is after = by (ends acts act) refl where
-    by : (t : Bool) → ends acts act ≡ t → IsShown bundle bound (led (Joined key pass acts)).link now
+    by : (t : Bool) → ends acts act ≡ t → IsShown engines (led (Joined key pass acts)).link now
     by true t = over_shown key pass acts name host port engine r.0 r.1 r.2 t e now is after
     by false t =
         let turned = joined_on journal key pass acts act t in
-        subst (λ (l : Link). IsShown bundle bound l now) (sym (ap (λ (x : Lead). x.link) turned))
+        subst (λ (l : Link). IsShown engines l now) (sym (ap (λ (x : Lead). x.link) turned))
         (passed_on key pass acts name host port engine r.0 r.1 act r.2 t e now
         (sym (ap (λ (x : Lead). x.effect) turned) ∙ is) after)
   shown_passed (Session name host port engine) (Ended key pass acts) r e now is after =
@@ -223,11 +225,11 @@ module _ (bundle : Bundle) (bound : ℕ) (journal : List Entry) (act : Act) wher
   shown_passed (Session name host port engine) (Settled other answer) r e now is after = absurd r
   shown_passed (Session name host port engine) (Refused key why) r e now is after = absurd r
 
-  shown_takes : (kept : Shown) (link : Link) → IsReady bundle bound link act kept → (e : Effect)
+  shown_takes : (kept : Shown S E) (link : Link) → IsReady engines link act kept → (e : Effect)
       → (led link).effect ≡ Some e → IsTaken kept e
-  shown_takes (Registration host reply) link r e is = idle_taken host reply e
+  shown_takes (Registration host reply) link r e is = idle_taken S E host reply e
   shown_takes (Turned_away key why) link r e is =
-      subst (IsTaken (Turned_away key why)) (sym (no_effect (Turned_away key why) link link
+      subst (IsTaken {S = S} {E = E} (Turned_away key why)) (sym (no_effect (Turned_away key why) link link
       (over_without_effect link (subst IsOver (sym r) tt)) e is)) tt
   shown_takes (Session name host port engine) (Joined key pass acts) r e is = by (ends acts act) refl where
     by : (t : Bool) → ends acts act ≡ t → IsTaken (Session name host port engine) e
@@ -251,11 +253,11 @@ module _ (bundle : Bundle) (bound : ℕ) (journal : List Entry) (act : Act) wher
   not_broken link next turned none =
       let clash : Some Nothing ≡ None = sym (ap (λ (t : Lead). t.effect) turned) ∙ none in absurd cc
 
-  shown_broken : (kept : Shown) (link : Link) → IsReady bundle bound link act kept → (led link).effect ≡ None
-      → IsShown bundle bound (led link).link kept
+  shown_broken : (kept : Shown S E) (link : Link) → IsReady engines link act kept → (led link).effect ≡ None
+      → IsShown engines (led link).link kept
   shown_broken (Registration host reply) (Asking name heard) r none = by (question heard act) refl where
     by : (o : Option (List ℕ)) → question heard act ≡ o
-        → IsShown bundle bound (led (Asking name heard)).link (Registration host reply)
+        → IsShown engines (led (Asking name heard)).link (Registration host reply)
     by None q =
         not_broken (Asking name heard) (listening name heard act)
         (heard_more journal name heard act (listening name heard act) q refl) none
@@ -279,9 +281,9 @@ module _ (bundle : Bundle) (bound : ℕ) (journal : List Entry) (act : Act) wher
     ends_so (Comes other) h = ap is_none h
 
     by : (t : Bool) → ends acts act ≡ t
-        → IsShown bundle bound (led (Joined key pass acts)).link (Session name host port engine)
+        → IsShown engines (led (Joined key pass acts)).link (Session name host port engine)
     by true t =
-        subst (λ (l : Link). IsShown bundle bound l (Session name host port engine))
+        subst (λ (l : Link). IsShown engines l (Session name host port engine))
         (sym (ap (λ (x : Lead). x.link) (joined_over journal key pass acts act t))) (r.0, r.1)
     by false t =
         let silent : passed acts act ≡ None = sym (ap (λ (x : Lead). x.effect) (joined_on journal key pass acts act t))
@@ -319,40 +321,40 @@ module _ (bundle : Bundle) (bound : ℕ) (journal : List Entry) (act : Act) wher
         let clash : (opened journal key (admit_verdict journal key)).effect ≡ None = sym
         (ap (λ (t : Lead). t.effect) (engine_comes journal key (admit_verdict journal key) refl)) ∙ h in cc
 
-  pub kept_passed : (kept after : Option Shown) (link : Link) (e : Effect) → Passes act
-      → IsReadyAt bundle bound link act kept → (led link).effect ≡ Some e → AfterAt kept e after
-      → IsShownAt bundle bound (led link).link after
+  pub kept_passed : (kept after : Option (Shown S E)) (link : Link) (e : Effect) → Passes act
+      → IsReadyAt engines link act kept → (led link).effect ≡ Some e → AfterAt engines kept e after
+      → IsShownAt engines (led link).link after
   kept_passed None after link e passes new is stays =
-      subst (IsShownAt bundle bound (led link).link) (sym stays)
+      subst (IsShownAt engines (led link).link) (sym stays)
       (subst (λ (l : Link). (led l).link ≡ New) (sym new) (ap (λ (t : Lead). t.link) (unmade passes)))
   kept_passed (Some kept) after link e passes ready is a =
-      subst (IsShownAt bundle bound (led link).link) (sym a.1) (shown_passed kept link ready e a.0 is a.2)
+      subst (IsShownAt engines (led link).link) (sym a.1) (shown_passed kept link ready e a.0 is a.2)
 
-  pub kept_takes : (kept : Option Shown) (link : Link) (e : Effect) → IsReadyAt bundle bound link act kept
+  pub kept_takes : (kept : Option (Shown S E)) (link : Link) (e : Effect) → IsReadyAt engines link act kept
       → (led link).effect ≡ Some e → IsTakenAt kept e
   kept_takes None link e new is = tt
   kept_takes (Some kept) link e ready is = shown_takes kept link ready e is
 
-  pub kept_broken : (kept : Option Shown) (link : Link) → IsReadyAt bundle bound link act kept
-      → (led link).effect ≡ None → IsShownAt bundle bound (led link).link kept
+  pub kept_broken : (kept : Option (Shown S E)) (link : Link) → IsReadyAt engines link act kept
+      → (led link).effect ≡ None → IsShownAt engines (led link).link kept
   kept_broken None link new none = absurd (some_effect (subst (λ (l : Link). (led l).effect ≡ None) new none))
   kept_broken (Some kept) link ready none = shown_broken kept link ready none
 
   -- an act that was read nothing for
-  pub idle_ready : (kept : Option Shown) (link : Link) → brought Up act ≡ [] → IsShownAt bundle bound link kept
-      → IsReadyAt bundle bound link act kept
+  pub idle_ready : (kept : Option (Shown S E)) (link : Link) → brought Up act ≡ [] → IsShownAt engines link kept
+      → IsReadyAt engines link act kept
   idle_ready None link idle h = h
   idle_ready (Some (Registration host reply)) link idle h = h
   idle_ready (Some (Turned_away key why)) link idle h = h
   idle_ready (Some (Session name host port engine)) (Joined key pass acts) idle h =
-      (h.0, h.1, act_law.idle_with bundle bound key acts engine h.1 act idle h.2)
+      (h.0, h.1, act_law.idle_with engines key acts engine h.1 act idle h.2)
   idle_ready (Some (Session name host port engine)) (Ended key pass acts) idle h = h
   idle_ready (Some (Session name host port engine)) New idle h = h
   idle_ready (Some (Session name host port engine)) (Asking other heard) idle h = h
   idle_ready (Some (Session name host port engine)) (Settled other answer) idle h = h
   idle_ready (Some (Session name host port engine)) (Refused key why) idle h = h
 
-  pub none_ready : (kept : Option Shown) → IsReadyAt bundle bound New act kept → kept ≡ None
+  pub none_ready : (kept : Option (Shown S E)) → IsReadyAt engines New act kept → kept ≡ None
   none_ready None h = refl
   none_ready (Some (Registration host reply)) h = absurd h
   none_ready (Some (Turned_away key why)) h = absurd cc
@@ -360,29 +362,29 @@ module _ (bundle : Bundle) (bound : ℕ) (journal : List Entry) (act : Act) wher
 
 -- ---- bytes that were read of an engine
 
-module _ (bundle : Bundle) (bound : ℕ) (count : ℕ) (piece : List ℕ) where
+module _ {S E : Type 0} (engines : Engines S E) (count : ℕ) (piece : List ℕ) where
   abbrev AsAsked : Link → Type 0
-  AsAsked link = LeadsAs bundle bound link (Move count) (Moved piece)
+  AsAsked link = LeadsAs engines link (Move count) (Moved piece)
 
-  none_as : (link : Link) → piece ≡ next_sent bundle bound link count → AsAsked link
+  none_as : (link : Link) → piece ≡ next_sent engines link count → AsAsked link
   none_as link e = λ journal. ap (λ p. lead journal link (Moved p)) e
 
-  session_ready : (link : Link) (name host : List ℕ) (port : ℕ) (engine : Engine)
-      → Has bundle bound link name host port engine
+  session_ready : (link : Link) (name host : List ℕ) (port : ℕ) (engine : Engine S E)
+      → Has engines link name host port engine
       → piece ≡ take count (drop engine.read engine.sent.items)
-      → HasFor bundle bound link (Moved piece) name host port (record engine { read = engine.read + length piece })
+      → HasFor engines link (Moved piece) name host port (record engine { read = engine.read + length piece })
       × AsAsked link
   session_ready (Joined key pass acts) name host port engine h is = (
     (
       h.0,
-      act_law.read_stands bundle bound key acts engine h.1 count piece is,
-      act_law.read_with bundle bound key acts
+      act_law.read_stands engines key acts engine h.1 count piece is,
+      act_law.read_with engines key acts
           engine h.1 count piece is h.2,
     ),
-    none_as (Joined key pass acts) (act_law.read_sent bundle bound key acts engine h.1 count piece is h.2),
+    none_as (Joined key pass acts) (act_law.read_sent engines key acts engine h.1 count piece is h.2),
   )
   session_ready (Ended key pass acts) name host port engine h is = (
-    (h.0, act_law.read_stands bundle bound key acts engine h.1 count piece is),
+    (h.0, act_law.read_stands engines key acts engine h.1 count piece is),
     λ journal. over_still journal (Ended key pass acts) (Moved piece) tt ∙ sym
         (over_still journal (Ended key pass acts) (Moved []) tt),
   )
@@ -399,24 +401,24 @@ module _ (bundle : Bundle) (bound : ℕ) (count : ℕ) (piece : List ℕ) where
   idle_shown (Ended key pass acts) host reply h none = absurd h
   idle_shown (Refused key why) host reply h none = absurd h
 
-  read_ready : (kept now : Shown) (link : Link) → IsShown bundle bound link kept → Reads kept count piece now
-      → IsReady bundle bound link (Moved piece) now × AsAsked link
+  read_ready : (kept now : Shown S E) (link : Link) → IsShown engines link kept → Reads kept count piece now
+      → IsReady engines link (Moved piece) now × AsAsked link
   read_ready (Registration host reply) now link h r =
-      (subst (IsReady bundle bound link (Moved piece)) (sym r.1) h, idle_shown link host reply h r.0)
+      (subst (IsReady engines link (Moved piece)) (sym r.1) h, idle_shown link host reply h r.0)
   read_ready (Turned_away key why) now link h r = (
-    subst (IsReady bundle bound link (Moved piece)) (sym r.1) h,
+    subst (IsReady engines link (Moved piece)) (sym r.1) h,
     subst AsAsked (sym h)
         (none_as (Refused key why) r.0),
   )
   read_ready (Session name host port engine) now link h r =
       let s = session_ready link name host port engine h r.0 in
-      (subst (IsReady bundle bound link (Moved piece)) (sym r.1) s.0, s.1)
+      (subst (IsReady engines link (Moved piece)) (sym r.1) s.0, s.1)
 
-  pub moved_ready : (kept after : Option Shown) (link : Link) → IsShownAt bundle bound link kept
+  pub moved_ready : (kept after : Option (Shown S E)) (link : Link) → IsShownAt engines link kept
       → ReadsAt kept count piece after
-      → IsReadyAt bundle bound link (Moved piece) after × AsAsked link
+      → IsReadyAt engines link (Moved piece) after × AsAsked link
   moved_ready None after link h r =
-      (subst (IsReadyAt bundle bound link (Moved piece)) (sym r.1) h, subst AsAsked (sym h) (none_as New r.0))
+      (subst (IsReadyAt engines link (Moved piece)) (sym r.1) h, subst AsAsked (sym h) (none_as New r.0))
   moved_ready (Some kept) after link h r =
       let s = read_ready kept r.0 link h r.2 in
-      (subst (IsReadyAt bundle bound link (Moved piece)) (sym r.1) s.0, s.1)
+      (subst (IsReadyAt engines link (Moved piece)) (sym r.1) s.0, s.1)

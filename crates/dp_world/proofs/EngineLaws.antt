@@ -4,12 +4,7 @@ use Rattle.std.specs.List.{flat_map, AllByRecursion}
 use Rattle.std.specs.Result.{OnOk}
 use Rattle.std.proofs.lemmas.List.{take_at, take-append-drop}
 use Rattle.std.proofs.lemmas.List.Concat.{flat_map-append}
-use Rattle.dp_tree.specs.declared.bundle.Bundle.{Bundle}
-use Rattle.dp_engine.specs.declared.session.SessionEnd.{SessionEnd}
-use Rattle.dp_engine.specs.Answers.{answer}
-use Rattle.dp_engine.specs.Responses.{init_text}
-use Rattle.dp_engine.specs.Served.{alone, answers_to, ending_after, rest_after}
-use Rattle.dp_engine.specs.Session.{State, opening}
+use Rattle.dp_world.specs.Alone.{Engines, alone, answers_to}
 use Rattle.dp_conversation.specs.Folds.{Reply, followed, replies}
 use Rattle.dp_conversation.proofs.GrowthLaws.{served_goes_on}
 use Rattle.dp_conversation.proofs.ServiceLaws.{replies_append, followed_open, followed_over}
@@ -69,7 +64,7 @@ module _ (bytes text more : List ℕ) (clean : has_no_nul text ≡ true) (is : b
 
 -- ---- going on
 
-abbrev joined : Reply State SessionEnd → Reply State SessionEnd → Reply State SessionEnd
+abbrev joined : {S E : Type 0} → Reply S E → Reply S E → Reply S E
 joined first next = record {
   packets = first.packets ++ next.packets;
   program = first.program ++ next.program;
@@ -77,102 +72,124 @@ joined first next = record {
   ended = next.ended;
 }
 
-over_still : (first : Reply State SessionEnd) (end : SessionEnd) (lines : List (List ℕ)) → first.ended ≡ Some end
-    → first ≡ joined first (going_on first.ended first.state lines)
-over_still first end lines e =
-    subst (λ (o : Option SessionEnd). record {
-      packets = first.packets;
-      program = first.program;
-      state = first.state;
-      ended = o;
-    } ≡ joined first (going_on o first.state lines)) (sym e)
-    (λ i. record {
-      packets = sym (append-nil first.packets) i;
-      program = sym
-          (append-nil first.program) i;
-      state = first.state;
-      ended = Some end;
-    })
+module _ {S E : Type 0} (step : S → List ℕ → Reply S E) where
+  over_still : (first : Reply S E) (end : E) (lines : List (List ℕ)) → first.ended ≡ Some end
+      → first ≡ joined first (going_on step first.ended first.state lines)
+  over_still first end lines e =
+      subst (λ (o : Option E). record {
+        packets = first.packets;
+        program = first.program;
+        state = first.state;
+        ended = o;
+      } ≡ joined first (going_on step o first.state lines)) (sym e)
+      (λ i. record {
+        packets = sym (append-nil first.packets) i;
+        program = sym
+            (append-nil first.program) i;
+        state = first.state;
+        ended = Some end;
+      })
 
-open_goes_on : (first : Reply State SessionEnd) (lines : List (List ℕ)) → first.ended ≡ None
-    → followed first (replies answer first.state lines) ≡ joined first (going_on first.ended first.state lines)
-open_goes_on first lines e =
-    followed_open first (replies answer first.state lines) e
-    ∙ ap (λ (o : Option SessionEnd). joined first (going_on o first.state lines)) (sym e)
+  open_goes_on : (first : Reply S E) (lines : List (List ℕ)) → first.ended ≡ None
+      → followed first (replies step first.state lines) ≡ joined first (going_on step first.ended first.state lines)
+  open_goes_on first lines e =
+      followed_open first (replies step first.state lines) e
+      ∙ ap (λ (o : Option E). joined first (going_on step o first.state lines)) (sym e)
 
-pub going_append : (ended : Option SessionEnd) (state : State) (lines more : List (List ℕ))
-    → going_on ended state (lines ++ more) ≡ joined (going_on ended state lines)
-    (going_on (going_on ended state lines).ended (going_on ended state lines).state more)
-going_append (Some end) state lines more = refl
-going_append None state lines more =
-    replies_append answer state lines more ∙ by (replies answer state lines).ended refl
-  where
-    by : (o : Option SessionEnd) → (replies answer state lines).ended ≡ o
-        → followed (replies answer state lines) (replies answer (replies answer state lines).state more)
-        ≡ joined (replies answer state lines) (going_on (replies answer state lines).ended
-        (replies answer state lines).state more)
-    by (Some end) e =
-        followed_over (replies answer state lines) (replies answer (replies answer state lines).state more) end e
-        ∙ over_still (replies answer state lines) end more e
-    by None e = open_goes_on (replies answer state lines) more e
+  pub going_append : (ended : Option E) (state : S) (lines more : List (List ℕ))
+      → going_on step ended state (lines ++ more) ≡ joined (going_on step ended state lines)
+      (going_on step (going_on step ended state lines).ended (going_on step ended state lines).state more)
+  going_append (Some end) state lines more = refl
+  going_append None state lines more =
+      replies_append step state lines more ∙ by (replies step state lines).ended refl
+    where
+      by : (o : Option E) → (replies step state lines).ended ≡ o
+          → followed (replies step state lines) (replies step (replies step state lines).state more)
+          ≡ joined (replies step state lines) (going_on step (replies step state lines).ended
+          (replies step state lines).state more)
+      by (Some end) e =
+          followed_over (replies step state lines) (replies step (replies step state lines).state more) end e
+          ∙ over_still (replies step state lines) end more e
+      by None e = open_goes_on (replies step state lines) more e
+
+-- no command leads to nothing
+module _ {S E : Type 0} (step : S → List ℕ → Reply S E) (x : Engine S E) where
+  still : (o : Option E) (s : S)
+      → going_on step o s [] ≡ record { packets = []; program = []; state = s; ended = o }
+  still None s = refl
+  still (Some end) s = refl
+
+  pub none_taken : GoesOn step [] x x
+  none_taken =
+      let same = still x.ended x.session in
+      record {
+        sent = sym (append-nil x.sent.items)
+            ∙ ap (λ (r : Reply S E). x.sent.items ++ flat_map packet_frame r.packets) (sym same);
+        own = sym (append-nil x.own.items) ∙ ap (λ (r : Reply S E). x.own.items ++ r.program) (sym same);
+        session = ap (λ (r : Reply S E). r.state) (sym same);
+        ended = ap (λ (r : Reply S E). r.ended) (sym same);
+        read = refl;
+        received = refl;
+      }
 
 -- what more commands lead to
-module _ (taken more : List (List ℕ)) (x y z : Engine) (a : GoesOn taken x y) (b : GoesOn more y z) where
-  both : going_on x.ended x.session (taken ++ more) ≡ joined (going_on x.ended x.session taken)
-      (going_on y.ended y.session more)
+module _ {S E : Type 0} (step : S → List ℕ → Reply S E) (taken more : List (List ℕ)) (x y z : Engine S E)
+    (a : GoesOn step taken x y) (b : GoesOn step more y z) where
+  both : going_on step x.ended x.session (taken ++ more) ≡ joined (going_on step x.ended x.session taken)
+      (going_on step y.ended y.session more)
   both =
-      let f = going_on x.ended x.session taken in
-      going_append x.ended x.session taken more
-      ∙ ap (λ (s : State). joined f (going_on f.ended s more)) (sym a.session)
-      ∙ ap (λ (o : Option SessionEnd). joined f (going_on o y.session more)) (sym a.ended)
+      let f = going_on step x.ended x.session taken in
+      going_append step x.ended x.session taken more
+      ∙ ap (λ (s : S). joined f (going_on step f.ended s more)) (sym a.session)
+      ∙ ap (λ (o : Option E). joined f (going_on step o y.session more)) (sym a.ended)
 
-  pub goes_on_more : GoesOn (taken ++ more) x z
+  pub goes_on_more : GoesOn step (taken ++ more) x z
   goes_on_more =
-      let f = going_on x.ended x.session taken in
-      let n = going_on y.ended y.session more in
-      let sent : flat_map packet_frame (going_on x.ended x.session (taken ++ more)).packets ≡ flat_map packet_frame
+      let f = going_on step x.ended x.session taken in
+      let n = going_on step y.ended y.session more in
+      let sent : flat_map packet_frame (going_on step x.ended x.session (taken ++ more)).packets ≡ flat_map packet_frame
       f.packets ++ flat_map packet_frame n.packets =
-      ap (λ (r : Reply State SessionEnd). flat_map packet_frame r.packets) both ∙ flat_map-append packet_frame f.packets
+      ap (λ (r : Reply S E). flat_map packet_frame r.packets) both ∙ flat_map-append packet_frame f.packets
       n.packets in
       record {
         sent = b.sent ∙ ap (λ l. l ++ flat_map packet_frame n.packets) a.sent
             ∙ append_assoc x.sent.items (flat_map packet_frame f.packets) (flat_map packet_frame n.packets) ∙ ap
             (λ l. x.sent.items ++ l) (sym sent);
         own = b.own ∙ ap (λ l. l ++ n.program) a.own ∙ append_assoc x.own.items f.program n.program
-            ∙ ap (λ (r : Reply State SessionEnd). x.own.items ++ r.program) (sym both);
-        session = b.session ∙ ap (λ (r : Reply State SessionEnd). r.state) (sym both);
-        ended = b.ended ∙ ap (λ (r : Reply State SessionEnd). r.ended) (sym both);
+            ∙ ap (λ (r : Reply S E). x.own.items ++ r.program) (sym both);
+        session = b.session ∙ ap (λ (r : Reply S E). r.state) (sym both);
+        ended = b.ended ∙ ap (λ (r : Reply S E). r.ended) (sym both);
         read = b.read ∙ a.read;
         received = b.received ∙ a.received;
       }
 
-module _ (bundle : Bundle) (bound : ℕ) (key : List ℕ) (lines more : List (List ℕ)) (x y : Engine)
-    (s : Serves bundle bound key lines x) (g : GoesOn more x y) where
-  all_answers : answers_to bundle bound (lines ++ more) ≡ joined (answers_to bundle bound lines)
-      (going_on x.ended x.session more)
+module _ {S E : Type 0} (engines : Engines S E) (key : List ℕ) (lines more : List (List ℕ)) (x y : Engine S E)
+    (s : Serves engines key lines x) (g : GoesOn engines.step more x y) where
+  all_answers : answers_to engines (lines ++ more) ≡ joined (answers_to engines lines)
+      (going_on engines.step x.ended x.session more)
   all_answers =
-      let f = answers_to bundle bound lines in
-      going_append None (opening bundle bound) lines more
-      ∙ ap (λ (t : State). joined f (going_on f.ended t more)) (sym s.session)
-      ∙ ap (λ (o : Option SessionEnd). joined f (going_on o x.session more)) (sym s.ended)
+      let f = answers_to engines lines in
+      going_append engines.step None engines.opening lines more
+      ∙ ap (λ (t : S). joined f (going_on engines.step f.ended t more)) (sym s.session)
+      ∙ ap (λ (o : Option E). joined f (going_on engines.step o x.session more)) (sym s.ended)
 
   pub serves_on : y.given.items ≡ x.given.items ++ flat_map command_frame more
-      → Serves bundle bound key (lines ++ more) y
+      → Serves engines key (lines ++ more) y
   serves_on given =
-      let f = answers_to bundle bound lines in
-      let n = going_on x.ended x.session more in
-      let first = packet_frame (init_text bundle key) in
-      let sent : flat_map packet_frame (answers_to bundle bound (lines ++ more)).packets ≡ flat_map packet_frame
+      let f = answers_to engines lines in
+      let n = going_on engines.step x.ended x.session more in
+      let first = packet_frame (engines.init key) in
+      let sent : flat_map packet_frame (answers_to engines (lines ++ more)).packets ≡ flat_map packet_frame
       f.packets ++ flat_map packet_frame n.packets =
-      ap (λ (r : Reply State SessionEnd). flat_map packet_frame r.packets) all_answers ∙ flat_map-append packet_frame
+      ap (λ (r : Reply S E). flat_map packet_frame r.packets) all_answers ∙ flat_map-append packet_frame
       f.packets n.packets in
       record {
         sent = g.sent ∙ ap (λ l. l ++ flat_map packet_frame n.packets) s.sent
             ∙ append_assoc first (flat_map packet_frame f.packets) (flat_map packet_frame n.packets) ∙ ap
             (λ l. first ++ l) (sym sent);
-        own = g.own ∙ ap (λ l. l ++ n.program) s.own ∙ ap (λ (r : Reply State SessionEnd). r.program) (sym all_answers);
-        session = g.session ∙ ap (λ (r : Reply State SessionEnd). r.state) (sym all_answers);
-        ended = g.ended ∙ ap (λ (r : Reply State SessionEnd). r.ended) (sym all_answers);
+        own = g.own ∙ ap (λ l. l ++ n.program) s.own ∙ ap (λ (r : Reply S E). r.program) (sym all_answers);
+        session = g.session ∙ ap (λ (r : Reply S E). r.state) (sym all_answers);
+        ended = g.ended ∙ ap (λ (r : Reply S E). r.ended) (sym all_answers);
         given =
             given ∙ ap (λ l. l ++ flat_map command_frame more) s.given ∙ sym (flat_map-append command_frame lines more);
       }
@@ -184,14 +201,15 @@ whole_commands bytes whole =
     (flat_map command_frame (commands_in bytes))
 
 -- it takes whole commands: they are put behind those that it was given, and answered
-pub takes_all : {E : Type 0} (r : Result (Unit {0}) E) (bytes : List ℕ) (x put y : Engine) → rest_of bytes ≡ []
-    → put.given.items ≡ x.given.items ++ bytes → OnOk r (GoesOn (commands_in bytes) (record x { given = put.given }) y)
+pub takes_all : {S E F : Type 0} (engines : Engines S E) (r : Result (Unit {0}) F) (bytes : List ℕ)
+    (x put y : Engine S E) → rest_of bytes ≡ [] → put.given.items ≡ x.given.items ++ bytes
+    → OnOk r (GoesOn engines.step (commands_in bytes) (record x { given = put.given }) y)
     → OnOk r (y.given.items ≡ put.given.items)
-    → (bundle : Bundle) (bound : ℕ) (key : List ℕ) (lines : List (List ℕ)) → Serves bundle bound key lines x
-    → OnOk r (Serves bundle bound key (lines ++ commands_in bytes) y)
-takes_all (Err e) bytes x put y whole given g same bundle bound key lines s = tt
-takes_all (Ok done) bytes x put y whole given g same bundle bound key lines s =
-    serves_on bundle bound key lines (commands_in bytes) x y s
+    → (key : List ℕ) (lines : List (List ℕ)) → Serves engines key lines x
+    → OnOk r (Serves engines key (lines ++ commands_in bytes) y)
+takes_all engines (Err e) bytes x put y whole given g same key lines s = tt
+takes_all engines (Ok done) bytes x put y whole given g same key lines s =
+    serves_on engines key lines (commands_in bytes) x y s
     (record { sent = g.sent; own = g.own; session = g.session; ended = g.ended; read = g.read; received = g.received })
     (same ∙ given ∙ ap (λ l. x.given.items ++ l) (whole_commands bytes whole))
 
@@ -200,12 +218,12 @@ takes_all (Ok done) bytes x put y whole given g same bundle bound key lines s =
 abbrev pub Begins : List ℕ → List ℕ → Type 0
 Begins front bytes = (rest : List ℕ) × (bytes ≡ front ++ rest)
 
-pub grows : (bundle : Bundle) (bound : ℕ) (key bytes more : List ℕ)
-    → Begins (alone bundle bound key bytes) (alone bundle bound key (bytes ++ more))
-grows bundle bound key bytes more =
-    let g = served_goes_on answer (opening bundle bound) bytes more in
-    let first = packet_frame (init_text bundle key) in
-    let before = replies answer (opening bundle bound) (commands_in bytes) in (
+pub grows : {S E : Type 0} (engines : Engines S E) (key bytes more : List ℕ)
+    → Begins (alone engines key bytes) (alone engines key (bytes ++ more))
+grows engines key bytes more =
+    let g = served_goes_on engines.step engines.opening bytes more in
+    let first = packet_frame (engines.init key) in
+    let before = replies engines.step engines.opening (commands_in bytes) in (
       flat_map packet_frame g.packets,
       ap (λ p. first ++ flat_map packet_frame p) g.more_packets
           ∙ ap (λ l. first ++ l) (flat_map-append packet_frame before.packets g.packets)
@@ -214,9 +232,9 @@ grows bundle bound key bytes more =
 
 -- ---- the end of a session
 
-module _ (bundle : Bundle) (bound : ℕ) (key : List ℕ) (acts : List Act) (engine : Engine)
-    (stands : IsEngineAfter bundle bound key acts engine) where
-  pub received_is : take engine.received engine.sent.items ≡ received bundle bound key (stream Down acts)
+module _ {S E : Type 0} (engines : Engines S E) (key : List ℕ) (acts : List Act) (engine : Engine S E)
+    (stands : IsEngineAfter engines key acts engine) where
+  pub received_is : take engine.received engine.sent.items ≡ received engines key (stream Down acts)
       (length (stream Up acts))
   received_is =
       let up = stream Up acts in
@@ -226,7 +244,7 @@ module _ (bundle : Bundle) (bound : ℕ) (key : List ℕ) (acts : List Act) (eng
       sym (take-append-drop (length up) engine.sent.items) ∙ ap (λ l. l ++ behind)
       (sym stands.up ∙ (packets_split up).whole)
       ∙ append_assoc frames (rest_of_packets up) behind in
-      let front : up ≡ take (length up) (alone bundle bound key (stream Down acts)) = stands.up ∙ ap
+      let front : up ≡ take (length up) (alone engines key (stream Down acts)) = stands.up ∙ ap
       (take (length up)) stands.serves.sent in
       ap (λ n. take n engine.sent.items) stands.received ∙ ap (take (length frames)) sent ∙ take_at frames
       (rest_of_packets up ++ behind) (length frames) refl
@@ -234,14 +252,14 @@ module _ (bundle : Bundle) (bound : ℕ) (key : List ℕ) (acts : List Act) (eng
 
   pub ended_shows : (end : Ended) → end.received.items ≡ take engine.received engine.sent.items
       → end.given.items ≡ engine.given.items
-      → end.own.items ≡ engine.own.items ++ rest_after engine.ended engine.session
-      → end.outcome ≡ ending_after engine.ended engine.session
-      → Shows bundle bound key (stream Down acts) (length (stream Up acts)) end
+      → end.own.items ≡ engine.own.items ++ engines.rest_after engine.ended engine.session
+      → end.outcome ≡ engines.ending_after engine.ended engine.session
+      → Shows engines key (stream Down acts) (length (stream Up acts)) end
   ended_shows end front given own outcome =
       let s = stands.serves in
       record {
         received = front ∙ received_is;
         commands = given ∙ s.given;
-        output = own ∙ (λ i. s.own i ++ rest_after (s.ended i) (s.session i));
-        outcome = outcome ∙ (λ i. ending_after (s.ended i) (s.session i));
+        output = own ∙ (λ i. s.own i ++ engines.rest_after (s.ended i) (s.session i));
+        outcome = outcome ∙ (λ i. engines.ending_after (s.ended i) (s.session i));
       }

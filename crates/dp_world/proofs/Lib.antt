@@ -4,3 +4,4 @@ pub mod ActLaws
 pub mod ChangeLaws
 pub mod WorldLaws
 pub mod TranscriptLaws
+pub mod TallyLaws

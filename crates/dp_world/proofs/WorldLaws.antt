@@ -9,7 +9,6 @@ use Rattle.std.proofs.lemmas.Grind.{fold-append}
 use Rattle.std.proofs.lemmas.List.{map-append}
 use Rattle.std.proofs.lemmas.List.Elements.{filter-append}
 use Rattle.indexmap.specs.IndexMap.{insert_entry}
-use Rattle.dp_tree.specs.declared.bundle.Bundle.{Bundle}
 use Rattle.dp_events.specs.declared.event.Act.{Act}
 use Rattle.dp_events.specs.declared.event.Act.TheVariants.{Ide, Engine, Give, Move, Close}
 use Rattle.dp_events.specs.declared.event.Event.{Event}
@@ -23,6 +22,7 @@ use Rattle.dp_proxy.specs.Pasts.{Link, New, Joined, Ended, Asking, Settled, Refu
 use Rattle.dp_proxy.specs.Pasts as core
 use Rattle.dp_proxy.specs.Invariant.{Keeps, Represents, RepresentsAfter}
 use Rattle.dp_proxy.specs.Steps.{Answers}
+use Rattle.dp_world.specs.Alone.{Engines}
 use Rattle.dp_world.specs.declared.shown.Shown.{Shown}
 use Rattle.dp_world.specs.declared.shown.Shown.TheVariants.{Registration, Refused as Turned_away, Session}
 use Rattle.dp_world.specs.Engines.{act_of, followed, past_of}
@@ -52,7 +52,8 @@ was_made link (e ∷ events) none = by (makes e.act) refl (was_made link events 
       both false h = refl
   by false isnt others = rw isnt others
 
-none_kept : (links : List (ℕ × Shown)) (number : ℕ) → list_any (λ k. nat_eq number k) (keys_of links) ≡ false
+none_kept : {S E : Type 0} (links : List (ℕ × Shown S E)) (number : ℕ)
+    → list_any (λ k. nat_eq number k) (keys_of links) ≡ false
     → kept_at links number ≡ None
 none_kept [] number h = refl
 none_kept (e ∷ links) number h =
@@ -60,7 +61,8 @@ none_kept (e ∷ links) number h =
     rw parts.0 (none_kept links number parts.1)
 
 -- what is put under a new key stands behind the others
-pub put_behind : (links : List (ℕ × Shown)) (number : ℕ) (kept : Shown) → kept_at links number ≡ None
+pub put_behind : {S E : Type 0} (links : List (ℕ × Shown S E)) (number : ℕ) (kept : Shown S E)
+    → kept_at links number ≡ None
     → keys_of (insert_entry nat_eq links number kept) ≡ keys_of links ++ number ∷ []
 put_behind [] number kept none = refl
 put_behind (e ∷ links) number kept none = by (put_behind links number kept) (nat_eq number e.0) refl where
@@ -72,7 +74,8 @@ put_behind (e ∷ links) number kept none = by (put_behind links number kept) (n
       let less : kept_at links number ≡ None = rw isnt at none in
       rw isnt (ap (λ l. e.0 ∷ l) (rest less))
 
-pub put_is : (links after : List (ℕ × Shown)) (number : ℕ) (kept : Shown) → kept_at links number ≡ None
+pub put_is : {S E : Type 0} (links after : List (ℕ × Shown S E)) (number : ℕ) (kept : Shown S E)
+    → kept_at links number ≡ None
     → after ≡ insert_entry nat_eq links number kept
     → ((other : ℕ) → kept_at after other ≡ cond (nat_eq number other) (Some kept) (kept_at links other))
     → IsAppended links after number (Some kept)
@@ -82,13 +85,14 @@ put_is links after number kept none entries updates = record {
   others = λ other isnt. updates other ∙ rw isnt refl;
 }
 
-pub made_more : (bundle : Bundle) (bound : ℕ) (links after : List (ℕ × Shown)) (number : ℕ) (kept : Option Shown)
+pub made_more : {S E : Type 0} (engines : Engines S E) (links after : List (ℕ × Shown S E)) (number : ℕ)
+    (kept : Option (Shown S E))
     (link : Link)
-    → (is_some kept ≡ true) × IsShownAt bundle bound link kept → IsAppended links after number kept
-    → IsMadeIn bundle bound links after number link
-made_more bundle bound links after number kept link shown put = record {
+    → (is_some kept ≡ true) × IsShownAt engines link kept → IsAppended links after number kept
+    → IsMadeIn engines links after number link
+made_more engines links after number kept link shown put = record {
   keys = put.keys ∙ ap (λ (t : Bool). keys_of links ++ (if t then number ∷ [] else [])) shown.0;
-  here = subst (IsShownAt bundle bound link) (sym put.here) shown.1;
+  here = subst (IsShownAt engines link) (sym put.here) shown.1;
   others = put.others;
 }
 
@@ -111,21 +115,22 @@ made_push events e =
 other_way : (a b : ℕ) → (a == b) ≡ false → (b == a) ≡ false
 other_way a b isnt = grind (arith, nat_tests)
 
-module _ (bundle : Bundle) (bound : ℕ) (events : List Event) (e : Event) (keeps : Keeps) (links : List (ℕ × Shown))
-    (w : IsWorldAfter bundle bound events keeps links) where
+module _ {S E : Type 0} (engines : Engines S E) (events : List Event) (e : Event) (keeps : Keeps)
+    (links : List (ℕ × Shown S E))
+    (w : IsWorldAfter engines events keeps links) where
   abbrev past : Past
-  past = past_of bundle bound events
+  past = past_of engines events
 
   abbrev link : Link
   link = past.link e.link
 
-  past_push : past_of bundle bound (events ++ e ∷ []) ≡ followed bundle bound past e
-  past_push = fold-append (followed bundle bound) core.start events (e ∷ [])
+  past_push : past_of engines (events ++ e ∷ []) ≡ followed engines past e
+  past_push = fold-append (followed engines) core.start events (e ∷ [])
 
   -- no more was read than was sent
   pub readable : IsReadableAt (kept_at links e.link)
   readable = by (kept_at links e.link) link (w.each e.link) where
-    session : (l : Link) (kept : Shown) → IsShown bundle bound l kept → IsReadable kept
+    session : (l : Link) (kept : Shown S E) → IsShown engines l kept → IsReadable kept
     session l (Registration host reply) h = tt
     session l (Turned_away key why) h = tt
     session (Joined key pass acts) (Session name host port engine) h = h.1.read
@@ -135,7 +140,7 @@ module _ (bundle : Bundle) (bound : ℕ) (events : List Event) (e : Event) (keep
     session (Settled other answer) (Session name host port engine) h = absurd h
     session (Refused key why) (Session name host port engine) h = absurd h
 
-    by : (o : Option Shown) (l : Link) → IsShownAt bundle bound l o → IsReadableAt o
+    by : (o : Option (Shown S E)) (l : Link) → IsShownAt engines l o → IsReadableAt o
     by None l h = tt
     by (Some kept) l h = session l kept h
 
@@ -156,12 +161,12 @@ module _ (bundle : Bundle) (bound : ℕ) (events : List Event) (e : Event) (keep
     not_kept = none_kept links e.link (ap (list_any (λ k. nat_eq e.link k)) w.keys ∙ was_made e.link events fresh)
 
     pub is_new : link ≡ New
-    is_new = subst (IsShownAt bundle bound link) not_kept (w.each e.link)
+    is_new = subst (IsShownAt engines link) not_kept (w.each e.link)
 
   -- ---- with what the proxy was told
 
-  module _ (act : ProxyAct) (mid : List (ℕ × Shown)) (others : KeepsOthers links mid e.link)
-      (ready : IsReadyAt bundle bound link act (kept_at mid e.link) × LeadsAs bundle bound link e.act act)
+  module _ (act : ProxyAct) (mid : List (ℕ × Shown S E)) (others : KeepsOthers links mid e.link)
+      (ready : IsReadyAt engines link act (kept_at mid e.link) × LeadsAs engines link e.act act)
       (now : Keeps) where
     abbrev comes : ProxyEvent
     comes = record { link = e.link; act = act }
@@ -170,41 +175,41 @@ module _ (bundle : Bundle) (bound : ℕ) (events : List Event) (e : Event) (keep
     led = lead past.journal link act
 
     abbrev led_by : Lead
-    led_by = lead past.journal link (act_of bundle bound link e.act)
+    led_by = lead past.journal link (act_of engines link e.act)
 
     -- the answer is one at this past
     pub told_at : (r : Result Effect ProxyError) → Answers (core.past_of w.came) e.link act r
         → Answers past e.link act r
     told_at r h = subst (λ (p : Past). Answers p e.link act r) w.past h
 
-    next_past : core.past_of (w.came ++ comes ∷ []) ≡ past_of bundle bound (events ++ e ∷ [])
+    next_past : core.past_of (w.came ++ comes ∷ []) ≡ past_of engines (events ++ e ∷ [])
     next_past =
         fold-append (λ (p : Past) (x : ProxyEvent). came p x.link x.act) core.start w.came (comes ∷ [])
         ∙ ap (λ (p : Past). came p e.link act) w.past
-        ∙ came_as past e.link act (act_of bundle bound link e.act) (ready.1 past.journal)
+        ∙ came_as past e.link act (act_of engines link e.act) (ready.1 past.journal)
         ∙ sym past_push
 
-    each_after : (after : List (ℕ × Shown)) → IsShownAt bundle bound led.link (kept_at after e.link)
+    each_after : (after : List (ℕ × Shown S E)) → IsShownAt engines led.link (kept_at after e.link)
         → ((other : ℕ) → (e.link == other) ≡ false → kept_at after other ≡ kept_at mid other)
-        → AreShown bundle bound (past_of bundle bound (events ++ e ∷ [])) after
+        → AreShown engines (past_of engines (events ++ e ∷ [])) after
     each_after after here apart =
-        λ n. subst (λ (p : Past). IsShownAt bundle bound (p.link n) (kept_at after n)) (sym past_push)
+        λ n. subst (λ (p : Past). IsShownAt engines (p.link n) (kept_at after n)) (sym past_push)
         (at n (n == e.link) refl) where
           at : (n : ℕ) (t : Bool) → (n == e.link) ≡ t
-              → IsShownAt bundle bound ((followed bundle bound past e).link n) (kept_at after n)
+              → IsShownAt engines ((followed engines past e).link n) (kept_at after n)
           at n true is =
               let same : e.link ≡ n = sym (eqb-true n e.link is) in
               let led_is = ap (λ (x : Lead). x.link) (ready.1 past.journal) in
-              rw is (subst (λ (m : ℕ). IsShownAt bundle bound led_by.link (kept_at after m)) same
-              (subst (λ (l : Link). IsShownAt bundle bound l (kept_at after e.link)) led_is here))
+              rw is (subst (λ (m : ℕ). IsShownAt engines led_by.link (kept_at after m)) same
+              (subst (λ (l : Link). IsShownAt engines l (kept_at after e.link)) led_is here))
           at n false isnt =
               let away : (e.link == n) ≡ false = other_way n e.link isnt in
-              rw isnt (subst (IsShownAt bundle bound (past.link n))
+              rw isnt (subst (IsShownAt engines (past.link n))
               (sym (apart n away ∙ others.others n away)) (w.each n))
 
     -- a link that was made passes the act on
     module _ (isnt : makes e.act ≡ false) where
-      keys_stay : (after : List (ℕ × Shown)) → keys_of after ≡ keys_of mid → keys_of after ≡ made (events ++ e ∷ [])
+      keys_stay : (after : List (ℕ × Shown S E)) → keys_of after ≡ keys_of mid → keys_of after ≡ made (events ++ e ∷ [])
       keys_stay after same =
           same ∙ others.keys ∙ w.keys ∙ sym (made_push events e ∙ ap (λ l. made events ++ l) none ∙ append-nil
           (made events))
@@ -213,39 +218,39 @@ module _ (bundle : Bundle) (bound : ℕ) (events : List Event) (e : Event) (keep
           none = rw isnt refl
 
       pub taken : (effect : Effect) → led.effect ≡ Some effect → IsTakenAt (kept_at mid e.link) effect
-      taken effect is = kept_takes bundle bound past.journal act (kept_at mid e.link) link effect ready.0 is
+      taken effect is = kept_takes engines past.journal act (kept_at mid e.link) link effect ready.0 is
 
-      pub passed_stands : (after : List (ℕ × Shown)) (effect : Effect) → led.effect ≡ Some effect
+      pub passed_stands : (after : List (ℕ × Shown S E)) (effect : Effect) → led.effect ≡ Some effect
           → Represents now (w.came ++ comes ∷ []) → Passes act
-          → KeepsOthers mid after e.link → AfterAt (kept_at mid e.link) effect (kept_at after e.link)
-          → IsWorldAfter bundle bound (events ++ e ∷ []) now after
+          → KeepsOthers mid after e.link → AfterAt engines (kept_at mid e.link) effect (kept_at after e.link)
+          → IsWorldAfter engines (events ++ e ∷ []) now after
       passed_stands after effect is stands passes keeps_others put = record {
         came = w.came ++ comes ∷ [];
         represents = stands;
         past = next_past;
         keys = keys_stay after keeps_others.keys;
         each =
-            each_after after (kept_passed bundle bound past.journal act (kept_at mid e.link)
+            each_after after (kept_passed engines past.journal act (kept_at mid e.link)
             (kept_at after e.link) link effect passes ready.0 is put) keeps_others.others;
       }
 
       broken_on : led.effect ≡ None → Represents now (w.came ++ comes ∷ [])
-          → IsWorldAfter bundle bound (events ++ e ∷ []) now mid
+          → IsWorldAfter engines (events ++ e ∷ []) now mid
       broken_on none stands = record {
         came = w.came ++ comes ∷ [];
         represents = stands;
         past = next_past;
         keys = keys_stay mid refl;
         each =
-            each_after mid (kept_broken bundle bound past.journal act (kept_at mid e.link) link ready.0 none)
+            each_after mid (kept_broken engines past.journal act (kept_at mid e.link) link ready.0 none)
             (λ other away. refl);
       }
 
     -- a link is made
-    pub made_stands : (after : List (ℕ × Shown)) → makes e.act ≡ true → link ≡ New → Represents now
+    pub made_stands : (after : List (ℕ × Shown S E)) → makes e.act ≡ true → link ≡ New → Represents now
         (w.came ++ comes ∷ [])
-        → IsMadeIn bundle bound mid after e.link (lead past.journal New (act_of bundle bound New e.act)).link
-        → IsWorldAfter bundle bound (events ++ e ∷ []) now after
+        → IsMadeIn engines mid after e.link (lead past.journal New (act_of engines New e.act)).link
+        → IsWorldAfter engines (events ++ e ∷ []) now after
     made_stands after is new stands put = record {
       came = w.came ++ comes ∷ [];
       represents = stands;
@@ -254,28 +259,28 @@ module _ (bundle : Bundle) (bound : ℕ) (events : List Event) (e : Event) (keep
           put.keys ∙ ap (λ l. l ++ e.link ∷ []) (others.keys ∙ w.keys) ∙ sym
           (made_push events e ∙ ap (λ l. made events ++ l) one);
       each = each_after after
-          (subst (λ (l : Link). IsShownAt bundle bound l (kept_at after e.link))
+          (subst (λ (l : Link). IsShownAt engines l (kept_at after e.link))
           (ap (λ (x : Lead). x.link) (sym led_new)) put.here) put.others;
     } where
       one : made (e ∷ []) ≡ e.link ∷ []
       one = rw is refl
 
-      led_new : lead past.journal link act ≡ lead past.journal New (act_of bundle bound New e.act)
-      led_new = ready.1 past.journal ∙ ap (λ (l : Link). lead past.journal l (act_of bundle bound l e.act)) new
+      led_new : lead past.journal link act ≡ lead past.journal New (act_of engines New e.act)
+      led_new = ready.1 past.journal ∙ ap (λ (l : Link). lead past.journal l (act_of engines l e.act)) new
 
     -- the link is broken: it was made before
     pub broken_stands : (makes e.act ≡ true → link ≡ New) → led.effect ≡ None → Represents now (w.came ++ comes ∷ [])
-        → IsWorldAfter bundle bound (events ++ e ∷ []) now mid
+        → IsWorldAfter engines (events ++ e ∷ []) now mid
     broken_stands new none stands = by (makes e.act) refl where
-      by : (t : Bool) → makes e.act ≡ t → IsWorldAfter bundle bound (events ++ e ∷ []) now mid
+      by : (t : Bool) → makes e.act ≡ t → IsWorldAfter engines (events ++ e ∷ []) now mid
       by true is =
-          absurd (some_effect bundle bound past.journal act (subst
+          absurd (some_effect engines past.journal act (subst
           (λ (l : Link). (lead past.journal l act).effect ≡ None) (new is) none))
       by false isnt = broken_on isnt none stands
 
     pub broken_told : (why : ProxyError) (offset : ℕ) → why ≡ BadFrame offset
         → Answers (core.past_of w.came) e.link act (Err why) → RepresentsAfter now w.came comes (Err why)
-        → (makes e.act ≡ true → link ≡ New) → IsWorldAfter bundle bound (events ++ e ∷ []) now mid
+        → (makes e.act ≡ true → link ≡ New) → IsWorldAfter engines (events ++ e ∷ []) now mid
     broken_told why offset is answers stands new =
         let told = subst (λ (x : ProxyError). Answers past e.link act (Err x)) is (told_at (Err why) answers) in
         broken_stands new told.1 (subst (λ (x : ProxyError). RepresentsAfter now w.came comes (Err x)) is stands)
@@ -286,25 +291,26 @@ module _ (bundle : Bundle) (bound : ℕ) (events : List Event) (e : Event) (keep
 
     pub mid_none : link ≡ New → kept_at mid e.link ≡ None
     mid_none new =
-        none_ready bundle bound past.journal act (kept_at mid e.link)
-        (subst (λ (l : Link). IsReadyAt bundle bound l act (kept_at mid e.link)) new ready.0)
+        none_ready engines past.journal act (kept_at mid e.link)
+        (subst (λ (l : Link). IsReadyAt engines l act (kept_at mid e.link)) new ready.0)
 
     pub made_told : (effect : Effect) → link ≡ New → led.effect ≡ Some effect
-        → (lead past.journal New (act_of bundle bound New e.act)).effect ≡ Some effect
+        → (lead past.journal New (act_of engines New e.act)).effect ≡ Some effect
     made_told effect new is =
         sym (ap (λ (x : Lead). x.effect) (ready.1 past.journal ∙ ap
-        (λ (l : Link). lead past.journal l (act_of bundle bound l e.act)) new)) ∙ is
+        (λ (l : Link). lead past.journal l (act_of engines l e.act)) new)) ∙ is
 
 -- ---- before any event
 
-pub world_begun : (bundle : Bundle) (bound : ℕ) (keeps : Keeps) (links : List (ℕ × Shown)) → Represents keeps []
-    → links ≡ [] → IsWorldAfter bundle bound [] keeps links
-world_begun bundle bound keeps links stands none = record {
+pub world_begun : {S E : Type 0} (engines : Engines S E) (keeps : Keeps) (links : List (ℕ × Shown S E))
+    → Represents keeps []
+    → links ≡ [] → IsWorldAfter engines [] keeps links
+world_begun {S = S} {E = E} engines keeps links stands none = record {
   came = [];
   represents = stands;
   past = refl;
   keys = ap keys_of none;
-  each = λ n. subst (λ (l : List (ℕ × Shown)). IsShownAt bundle bound New (kept_at l n)) (sym none) refl;
+  each = λ n. subst (λ (l : List (ℕ × Shown S E)). IsShownAt engines New (kept_at l n)) (sym none) refl;
 }
 
 pub on_ok : {T E P Q : Type 0} (r : Result T E) → (P → Q) → OnOk r P → OnOk r Q

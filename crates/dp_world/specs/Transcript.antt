@@ -3,10 +3,9 @@
 use Rattle.std.specs.Prelude.{ℕ, if◌then◌else◌, List, [], ◌++◌, length, take, flat_map}
 use Rattle.std.specs.Prelude.{Option, Some, None, codes}
 use Rattle.std.specs.Fmt.{decimal}
-use Rattle.dp_tree.specs.declared.bundle.Bundle.{Bundle}
 use Rattle.dp_state.specs.declared.moments.Outcome.{Outcome}
 use Rattle.dp_state.specs.declared.moments.Outcome.TheVariants.{Done, Exit, Fatal, Bound}
-use Rattle.dp_engine.specs.Served.{alone, own, ending}
+use Rattle.dp_world.specs.Alone.{Engines, alone, own, ending}
 use Rattle.dp_registry.specs.declared.pass.Pass.{Pass}
 use Rattle.dp_registry.specs.declared.refusal.Refusal.{Refusal}
 use Rattle.dp_registry.specs.declared.refusal.Refusal.TheVariants as refusal
@@ -51,43 +50,43 @@ status (Some Bound) = 255
 
 -- The whole packets in the first bytes, so many, of what the engine sends, served alone with what
 -- its IDE gave.
-abbrev pub received : Bundle → ℕ → List ℕ → List ℕ → ℕ → List ℕ
-received bundle bound key given read =
-    flat_map packet_frame (packets_in (take read (alone bundle bound key given)))
+abbrev pub received : {S E : Type 0} → Engines S E → List ℕ → List ℕ → ℕ → List ℕ
+received engines key given read =
+    flat_map packet_frame (packets_in (take read (alone engines key given)))
 
 -- What the IDE received, what the engine received, what went to the program's own output, and how
 -- the program ended.
-abbrev pub served : Bundle → ℕ → List ℕ → List ℕ → ℕ → List ℕ
-served bundle bound key given read =
-    line (codes "ide") (hex (received bundle bound key given read))
+abbrev pub served : {S E : Type 0} → Engines S E → List ℕ → List ℕ → ℕ → List ℕ
+served engines key given read =
+    line (codes "ide") (hex (received engines key given read))
     ++ line (codes "engine") (hex (flat_map command_frame (commands_in given)))
-    ++ line (codes "output") (hex (own bundle bound given))
-    ++ line (codes "end") (decimal (status (ending bundle bound given)))
+    ++ line (codes "output") (hex (own engines given))
+    ++ line (codes "end") (decimal (status (ending engines given)))
 
-abbrev pub session_of : Bundle → ℕ → ℕ → List ℕ → Pass → List ℕ → ℕ → List ℕ
-session_of bundle bound link key pass given read =
+abbrev pub session_of : {S E : Type 0} → Engines S E → ℕ → List ℕ → Pass → List ℕ → ℕ → List ℕ
+session_of engines link key pass given read =
     session link key (codes " to " ++ pass.host ++ codes ":" ++ decimal pass.port)
-    ++ served bundle bound key given read
+    ++ served engines key given read
 
 -- ---- all of them
 
-abbrev pub shown : Bundle → ℕ → ℕ → Link → List ℕ
-shown bundle bound link New = []
-shown bundle bound link (Asking host heard) = registration link host []
-shown bundle bound link (Settled host reply) = registration link host reply
-shown bundle bound link (Refused key why) = session link key (codes " refused " ++ reason why)
-shown bundle bound link (Joined key pass acts) =
-    session_of bundle bound link key pass (stream Down acts) (length (stream Up acts))
-shown bundle bound link (Ended key pass acts) =
-    session_of bundle bound link key pass (stream Down acts) (length (stream Up acts))
+abbrev pub shown : {S E : Type 0} → Engines S E → ℕ → Link → List ℕ
+shown engines link New = []
+shown engines link (Asking host heard) = registration link host []
+shown engines link (Settled host reply) = registration link host reply
+shown engines link (Refused key why) = session link key (codes " refused " ++ reason why)
+shown engines link (Joined key pass acts) =
+    session_of engines link key pass (stream Down acts) (length (stream Up acts))
+shown engines link (Ended key pass acts) =
+    session_of engines link key pass (stream Down acts) (length (stream Up acts))
 
 -- where a link is made its lines are written, by all that comes of it
-abbrev pub shown_at : Bundle → ℕ → Past → Event → List ℕ
-shown_at bundle bound past e =
-    if makes e.act then shown bundle bound e.link (past.link e.link) else []
+abbrev pub shown_at : {S E : Type 0} → Engines S E → Past → Event → List ℕ
+shown_at engines past e =
+    if makes e.act then shown engines e.link (past.link e.link) else []
 
-abbrev pub shown_of : Bundle → ℕ → Past → List Event → List ℕ
-shown_of bundle bound past events = flat_map (shown_at bundle bound past) events
+abbrev pub shown_of : {S E : Type 0} → Engines S E → Past → List Event → List ℕ
+shown_of engines past events = flat_map (shown_at engines past) events
 
-abbrev pub transcript : Bundle → ℕ → List Event → List ℕ
-transcript bundle bound events = shown_of bundle bound (past_of bundle bound events) events
+abbrev pub transcript : {S E : Type 0} → Engines S E → List Event → List ℕ
+transcript engines events = shown_of engines (past_of engines events) events

@@ -3,3 +3,4 @@ pub mod EngineStates
 pub mod KeptLinks
 pub mod Changes
 pub mod LinkLines
+pub mod LinkTallies

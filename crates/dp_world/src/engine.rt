@@ -1,29 +1,24 @@
 //! An engine in memory, with its session.
-ghost use Rattle.std.specs.Prelude.{◌≡◌, ◌≤◌, ◌+◌, [], ◌∷◌, ◌++◌, ℕ, List, flat_map, length, map, take, drop};
+ghost use Rattle.std.specs.Prelude.{◌≡◌, ◌≤◌, ◌+◌, [], ◌∷◌, ◌++◌, ℕ, List, flat_map, length, take, drop};
 ghost use Rattle.std.specs.Prelude.{IfOk, MatchOption, OnOk, OnErr};
 ghost use Rattle.std.specs.List.{AllByRecursion};
-ghost use Rattle.dp_engine.specs.Served.{ending_after, rest_after};
-ghost use Rattle.dp_engine.specs.Session.{outcome_of, unwritten};
 ghost use Rattle.dp_outside.specs.Names.{IsKey};
-ghost use Rattle.dp_tree.specs.FileNames.{AreFileNames};
-ghost use Rattle.dp_tree.specs.declared.bundle.Bundle.{Bundle as Program};
 ghost use Rattle.dp_wire.specs.Frames.{IsCommand, IsPacketText, commands_in, packet_frame, rest_of};
 ghost use Rattle.dp_world.specs.inner.EngineStates.{GoesOn, IsFirst, Serves};
 
-use dp_engine::{Answer, Session, SessionEnd, Steps};
+use crate::engines::Engines;
+use dp_conversation::Answer;
 use dp_state::Outcome;
-use dp_tree::Bundle;
 use dp_value::{Bytes, Memory};
 use dp_wire::{first_nul, packet_bytes};
 use std::alloc::Global;
-use std::sync::ledger::Ledger;
 
 /// An engine in memory. What it has sent is kept whole: what its IDE received is a front of it.
 #[derive(Drop)]
-pub(crate) struct Engine<'a> {
-    session: Session<'a>,
+pub(crate) struct Engine<S, E> {
+    session: S,
     /// How a command has ended the session, if one has.
-    ended: Option<SessionEnd>,
+    ended: Option<E>,
     /// What it has sent, how much of that was read, and how much of that the IDE received.
     sent: Vec<u8>,
     read: usize,
@@ -47,38 +42,7 @@ pub(crate) struct Ended {
     pub(crate) outcome: Option<Outcome>,
 }
 
-impl<'a> Engine<'a> {
-    /// An engine that comes with a key: it has sent its first packet.
-    pub(crate) fn begin(
-        alloc: Global,
-        bundle: &'a Bundle,
-        key: &[u8],
-        bound: u64,
-    ) -> Result<Engine<'a>, Memory>
-        requires key { IsKey key.now }
-        requires names { AreFileNames (map (λ f. f.name) bundle.now.files) }
-        ensures serves { IfOk result (λ engine. Serves bundle.now bound key.now [] engine) }
-        ensures read { IfOk result (λ engine. engine.read ≡ 0) }
-        ensures received { IfOk result (λ engine. engine.received ≡ 0) }
-    {
-        let (session, init) = Session::begin(alloc, bundle, key, bound)?;
-        match packet_bytes(alloc, init.as_slice()) {
-            Ok(frame) => Ok(Engine {
-                session,
-                ended: None,
-                sent: frame.into_vec(),
-                read: 0,
-                received: 0,
-                given: Vec::new(alloc),
-                own: Vec::new(alloc),
-            }),
-            Err(Memory) => {
-                drop(session);
-                Err(Memory)
-            }
-        }
-    }
-
+impl<S, E> Engine<S, E> {
     /// Reads at most so many bytes more of what it has sent. Where memory runs out none was read.
     pub(crate) fn next(&mut self, alloc: Global, most: u32) -> Result<Bytes, Memory>
         requires { self.old.read ≤ length self.old.sent.items }
@@ -100,98 +64,137 @@ impl<'a> Engine<'a> {
     {
         self.received += frames.len();
     }
+}
 
-    /// Takes whole commands, each with its NUL, and answers them, up to one that ends the session.
-    ///
-    /// Once memory ran out it has failed for good.
-    pub(crate) fn take<L: Ledger>(
-        &mut self,
-        alloc: Global,
-        commands: &[u8],
-        steps: &mut Steps<L>,
-    ) -> Result<(), Memory>
-        requires { rest_of commands.now ≡ [] }
-        ensures serves { (bundle : Program) (bound : ℕ) (key : List ℕ) (lines : List (List ℕ))
-            → Serves bundle bound key lines self.old
-            → OnOk result (Serves bundle bound key (lines ++ commands_in commands.now) self.new) }
-        ensures read { OnOk result (self.new.read ≡ self.old.read) }
-        ensures received { OnOk result (self.new.received ≡ self.old.received) }
-    {
-        self.given.extend_from_slice(commands)?;
-        self.answer_all(alloc, commands, steps)
-    }
-
-    /// Answers whole commands, each with its NUL, up to one that ends the session.
-    fn answer_all<L: Ledger>(
-        &mut self,
-        alloc: Global,
-        commands: &[u8],
-        steps: &mut Steps<L>,
-    ) -> Result<(), Memory>
-        requires { rest_of commands.now ≡ [] }
-        ensures goes_on { OnOk result (GoesOn (commands_in commands.now) self.old self.new) }
-        ensures given { OnOk result (self.new.given.items ≡ self.old.given.items) }
-    {
-        let mut rest = commands;
-        'commands: while let Some((line, more)) = first_command(rest) {
-            self.answer(alloc, line, steps)?;
-            rest = more;
-        }
-        Ok(())
-    }
-
-    /// Answers a command, unless one has ended the session.
-    fn answer<L: Ledger>(
-        &mut self,
-        alloc: Global,
-        line: &[u8],
-        steps: &mut Steps<L>,
-    ) -> Result<(), Memory>
-        requires { IsCommand line.now }
-        ensures goes_on { OnOk result (GoesOn (line.now ∷ []) self.old self.new) }
-        ensures given { OnOk result (self.new.given.items ≡ self.old.given.items) }
-    {
-        if self.ended.is_some() {
-            return Ok(());
-        }
-        let answer = self.session.answer(line, steps)?;
-        let Answer {
-            packets,
-            program,
-            ended,
-        } = answer;
-        put_packets(alloc, packets.as_slice(), &mut self.sent)?;
-        self.own.extend_from_slice(program.as_slice())?;
-        self.ended = ended;
-        Ok(())
-    }
-
-    /// The session is over: the program runs on to its end, unless a command has killed it.
-    pub(crate) fn finish<L: Ledger>(self, steps: &mut Steps<L>) -> Result<Ended, Memory>
-        ensures received { IfOk result (λ end. end.received.items ≡ take self.entry.received self.entry.sent.items) }
-        ensures given { IfOk result (λ end. end.given.items ≡ self.entry.given.items) }
-        ensures own { IfOk result (λ end. end.own.items
-            ≡ self.entry.own.items ++ rest_after self.entry.ended self.entry.session) }
-        ensures outcome { IfOk result (λ end. end.outcome ≡ ending_after self.entry.ended self.entry.session) }
-    {
-        let Engine {
+/// An engine that comes with a key: it has sent its first packet.
+pub(crate) fn begin<A: Engines>(
+    alloc: Global,
+    engines: &A,
+    key: &[u8],
+) -> Result<Engine<A::Session, A::End>, Memory>
+    requires { IsKey key.now }
+    ensures serves { IfOk result (λ engine. Serves (A.known engines.now) key.now [] engine) }
+    ensures read { IfOk result (λ engine. engine.read ≡ 0) }
+    ensures received { IfOk result (λ engine. engine.received ≡ 0) }
+{
+    let (session, init) = engines.begin(alloc, key)?;
+    match packet_bytes(alloc, init.as_slice()) {
+        Ok(frame) => Ok(Engine {
             session,
-            ended,
-            sent: mut received,
-            read: _,
-            received: count,
-            given,
-            mut own,
-        } = self;
-        received.truncate(count);
-        let outcome = run_out(session, ended, &mut own, steps)?;
-        Ok(Ended {
-            received,
-            given,
-            own,
-            outcome,
-        })
+            ended: None,
+            sent: frame.into_vec(),
+            read: 0,
+            received: 0,
+            given: Vec::new(alloc),
+            own: Vec::new(alloc),
+        }),
+        Err(Memory) => {
+            drop(session);
+            Err(Memory)
+        }
     }
+}
+
+/// It takes whole commands, each with its NUL, and answers them, up to one that ends the session.
+///
+/// Once memory ran out it has failed for good.
+pub(crate) fn take_in<A: Engines>(
+    engine: &mut Engine<A::Session, A::End>,
+    alloc: Global,
+    engines: &A,
+    commands: &[u8],
+    steps: &mut A::Steps,
+) -> Result<(), Memory>
+    requires { rest_of commands.now ≡ [] }
+    ensures serves { (key : List ℕ) (lines : List (List ℕ)) → Serves (A.known engines.now) key lines engine.old
+        → OnOk result (Serves (A.known engines.now) key (lines ++ commands_in commands.now) engine.new) }
+    ensures read { OnOk result (engine.new.read ≡ engine.old.read) }
+    ensures received { OnOk result (engine.new.received ≡ engine.old.received) }
+{
+    engine.given.extend_from_slice(commands)?;
+    answer_all(engine, alloc, engines, commands, steps)
+}
+
+/// It answers whole commands, each with its NUL, up to one that ends the session.
+fn answer_all<A: Engines>(
+    engine: &mut Engine<A::Session, A::End>,
+    alloc: Global,
+    engines: &A,
+    commands: &[u8],
+    steps: &mut A::Steps,
+) -> Result<(), Memory>
+    requires { rest_of commands.now ≡ [] }
+    ensures goes_on { OnOk result
+        (GoesOn (A.known engines.now).step (commands_in commands.now) engine.old engine.new) }
+    ensures given { OnOk result (engine.new.given.items ≡ engine.old.given.items) }
+{
+    let mut rest = commands;
+    'commands: while let Some((line, more)) = first_command(rest) {
+        answer(engine, alloc, engines, line, steps)?;
+        rest = more;
+    }
+    Ok(())
+}
+
+/// It answers a command, unless one has ended the session.
+fn answer<A: Engines>(
+    engine: &mut Engine<A::Session, A::End>,
+    alloc: Global,
+    engines: &A,
+    line: &[u8],
+    steps: &mut A::Steps,
+) -> Result<(), Memory>
+    requires { IsCommand line.now }
+    ensures goes_on { OnOk result (GoesOn (A.known engines.now).step (line.now ∷ []) engine.old engine.new) }
+    ensures given { OnOk result (engine.new.given.items ≡ engine.old.given.items) }
+{
+    if engine.ended.is_some() {
+        return Ok(());
+    }
+    let answer = engines.answer(&mut engine.session, alloc, line, steps)?;
+    let Answer {
+        packets,
+        program,
+        ended,
+    } = answer;
+    put_packets(alloc, packets.as_slice(), &mut engine.sent)?;
+    engine.own.extend_from_slice(program.as_slice())?;
+    engine.ended = ended;
+    Ok(())
+}
+
+/// Its session is over: the program runs on to its end, unless a command has killed it.
+pub(crate) fn finish<A: Engines>(
+    engine: Engine<A::Session, A::End>,
+    alloc: Global,
+    engines: &A,
+    steps: &mut A::Steps,
+) -> Result<Ended, Memory>
+    ensures received { IfOk result (λ end. end.received.items ≡ take engine.received engine.sent.items) }
+    ensures given { IfOk result (λ end. end.given.items ≡ engine.given.items) }
+    ensures own { IfOk result (λ end. end.own.items
+        ≡ engine.own.items ++ (A.known engines.now).rest_after engine.ended engine.session) }
+    ensures outcome { IfOk result (λ end. end.outcome
+        ≡ (A.known engines.now).ending_after engine.ended engine.session) }
+{
+    let Engine {
+        session,
+        ended,
+        sent: mut received,
+        read: _,
+        received: count,
+        given,
+        mut own,
+    } = engine;
+    received.truncate(count);
+    let (rest, outcome) = engines.finish(session, ended, alloc, steps)?;
+    own.extend_from_slice(rest.as_slice())?;
+    Ok(Ended {
+        received,
+        given,
+        own,
+        outcome,
+    })
 }
 
 /// Puts the packets of these texts behind what is there.
@@ -204,41 +207,6 @@ fn put_packets(alloc: Global, texts: &[Bytes], sent: &mut Vec<u8>) -> Result<(),
         sent.extend_from_slice(frame.as_slice())?;
     }
     Ok(())
-}
-
-/// Runs the program on to its end, unless a command has killed it.
-fn run_out<L: Ledger>(
-    session: Session<'_>,
-    ended: Option<SessionEnd>,
-    own: &mut Vec<u8>,
-    steps: &mut Steps<L>,
-) -> Result<Option<Outcome>, Memory>
-    ensures own { OnOk result (own.new.items ≡ own.old.items ++ rest_after ended session.entry) }
-    ensures outcome { IfOk result (λ outcome. outcome ≡ ending_after ended session.entry) }
-{
-    match ended {
-        Some(SessionEnd::Killed) => {
-            drop(session);
-            Ok(None)
-        }
-        Some(SessionEnd::Detached) => run_on(session, own, steps),
-        Some(SessionEnd::Finished(_)) => run_on(session, own, steps),
-        None => run_on(session, own, steps),
-    }
-}
-
-/// Runs the program on to its end.
-fn run_on<L: Ledger>(
-    session: Session<'_>,
-    own: &mut Vec<u8>,
-    steps: &mut Steps<L>,
-) -> Result<Option<Outcome>, Memory>
-    ensures own { OnOk result (own.new.items ≡ own.old.items ++ unwritten session.entry) }
-    ensures outcome { IfOk result (λ outcome. outcome ≡ Some (outcome_of session.entry)) }
-{
-    let (rest, outcome) = session.finish(steps)?;
-    own.extend_from_slice(rest.as_slice())?;
-    Ok(Some(outcome))
 }
 
 /// The first of whole commands, without its NUL, and those behind it; none of no commands.

@@ -1,7 +1,5 @@
 //! The links that were made, and what an event changes there.
-ghost use Rattle.std.specs.Prelude.{◌≡◌, ℕ, List, true, false, map, is_some, None, Some, IfOk, OnOk};
-ghost use Rattle.dp_tree.specs.FileNames.{AreFileNames};
-ghost use Rattle.dp_tree.specs.declared.bundle.Bundle.{Bundle as Program};
+ghost use Rattle.std.specs.Prelude.{◌≡◌, List, true, false, is_some, None, Some, IfOk, OnOk};
 ghost use Rattle.dp_outside.specs.Names.{IsKey};
 ghost use Rattle.dp_registry.specs.declared.entry.Entry.{Entry};
 ghost use Rattle.dp_registry.specs.declared.pass.Pass.{Pass};
@@ -9,26 +7,25 @@ ghost use Rattle.dp_registry.specs.declared.refusal.Refusal.{Refusal};
 ghost use Rattle.std.specs.declared.result.Result.{Result as Verdict};
 ghost use Rattle.dp_events.specs.Lists.{IsFormed, makes as is_made_by};
 ghost use Rattle.dp_proxy.specs.Pasts.{Link, New, lead, admitted, admission};
+ghost use Rattle.dp_world.specs.Alone.{Engines as Known};
 ghost use Rattle.dp_world.specs.Engines.{act_of};
 ghost use Rattle.dp_world.specs.inner.Changes.{IsReadableAt, ReadsAt, IsFormedFor, IsTakenAt, AfterAt, IsAppended};
 ghost use Rattle.dp_world.specs.inner.Changes.{IsMadeIn};
 ghost use Rattle.dp_world.specs.inner.KeptLinks.{IsShownAt, IsReadyAt, Passes, LeadsAs, KeepsOthers, kept_at};
 
-use crate::engine::Engine;
-use crate::shown::Shown;
-use dp_engine::Steps;
+use crate::engine::begin;
+use crate::engines::Engines;
+use crate::shown::{Shown, pass_on};
 use dp_events::{Act, Event};
 use dp_proxy::{Act as ProxyAct, Effect};
-use dp_tree::Bundle;
 use dp_value::{Bytes, Memory};
 use indexmap::IndexMap;
 use std::alloc::Global;
-use std::sync::ledger::Ledger;
 
 /// The next bytes of the engine of a link, at most so many; none where it has no session.
-fn read(
+fn read<S: Drop, E: Drop>(
     alloc: Global,
-    links: &mut IndexMap<u32, Shown>,
+    links: &mut IndexMap<u32, Shown<S, E>>,
     link: u32,
     count: u32,
 ) -> Result<Bytes, Memory>
@@ -44,16 +41,16 @@ fn read(
 }
 
 /// What an event brings to the proxy.
-pub(crate) fn brought(
+pub(crate) fn brought<S: Drop, E: Drop>(
     alloc: Global,
-    links: &mut IndexMap<u32, Shown>,
+    links: &mut IndexMap<u32, Shown<S, E>>,
     event: &Event,
 ) -> Result<ProxyAct, Memory>
     requires { IsReadableAt (kept_at links.old.entries event.now.link) }
-    ensures ready { IfOk result (λ act. (bundle : Program) (bound : ℕ) (link : Link)
-        → IsShownAt bundle bound link (kept_at links.old.entries event.now.link)
-        → IsReadyAt bundle bound link act (kept_at links.new.entries event.now.link)
-        × LeadsAs bundle bound link event.now.act act) }
+    ensures ready { IfOk result (λ act. (engines : Known S E) (link : Link)
+        → IsShownAt engines link (kept_at links.old.entries event.now.link)
+        → IsReadyAt engines link act (kept_at links.new.entries event.now.link)
+        × LeadsAs engines link event.now.act act) }
     ensures others { KeepsOthers links.old.entries links.new.entries event.now.link }
     ensures formed { IfOk result (λ act. IsFormed event.now.act → IsFormedFor act) }
     ensures passes { IfOk result (λ act. is_made_by event.now.act ≡ false → Passes act) }
@@ -79,17 +76,15 @@ pub(crate) fn makes(act: &Act) -> bool
 }
 
 /// What is shown of an engine that came with a key, by what the proxy answered.
-fn joined<'a>(
+fn joined<A: Engines>(
     alloc: Global,
-    bundle: &'a Bundle,
-    bound: u64,
+    engines: &A,
     key: &Bytes,
     effect: Effect,
-) -> Result<Option<Shown<'a>>, Memory>
-    requires key { IsKey key.now }
-    requires names { AreFileNames (map (λ f. f.name) bundle.now.files) }
+) -> Result<Option<Shown<A::Session, A::End>>, Memory>
+    requires { IsKey key.now }
     ensures { (verdict : Verdict Pass Refusal) → effect ≡ admission verdict → IfOk result (λ kept.
-        (is_some kept ≡ true) × IsShownAt bundle.now bound (admitted key.now verdict) kept) }
+        (is_some kept ≡ true) × IsShownAt (A.known engines.now) (admitted key.now verdict) kept) }
 {
     match effect {
         Effect::Turned(why) => {
@@ -102,7 +97,7 @@ fn joined<'a>(
             port,
         } => {
             let name = key.try_clone()?;
-            let engine = Engine::begin(alloc, bundle, key.as_slice(), bound)?;
+            let engine = begin(alloc, engines, key.as_slice())?;
             Ok(Some(Shown::Session {
                 key: name,
                 host,
@@ -115,19 +110,17 @@ fn joined<'a>(
 }
 
 /// What is shown of a link that an event may make, by what the proxy answered.
-fn opened<'a>(
+fn opened<A: Engines>(
     alloc: Global,
-    bundle: &'a Bundle,
-    bound: u64,
+    engines: &A,
     act: &Act,
     effect: Effect,
-) -> Result<Option<Shown<'a>>, Memory>
-    requires formed { IsFormed act.now }
-    requires names { AreFileNames (map (λ f. f.name) bundle.now.files) }
+) -> Result<Option<Shown<A::Session, A::End>>, Memory>
+    requires { IsFormed act.now }
     ensures { (journal : List Entry) → is_made_by act.now ≡ true
-        → (lead journal New (act_of bundle.now bound New act.now)).effect ≡ Some effect → IfOk result (λ kept.
+        → (lead journal New (act_of (A.known engines.now) New act.now)).effect ≡ Some effect → IfOk result (λ kept.
         (is_some kept ≡ true)
-        × IsShownAt bundle.now bound (lead journal New (act_of bundle.now bound New act.now)).link kept) }
+        × IsShownAt (A.known engines.now) (lead journal New (act_of (A.known engines.now) New act.now)).link kept) }
 {
     match act {
         Act::Ide(host) => {
@@ -135,19 +128,19 @@ fn opened<'a>(
             let reply = Bytes::of(Vec::new(alloc));
             Ok(Some(Shown::Registration { host, reply }))
         }
-        Act::Engine(key) => joined(alloc, bundle, bound, key, effect),
+        Act::Engine(key) => joined(alloc, engines, key, effect),
         _ => Ok(None),
     }
 }
 
 /// Puts what is shown of a link that was not made behind the others, if something is.
-fn put<'a>(
-    links: &mut IndexMap<u32, Shown<'a>>,
+fn put<S: Drop, E: Drop>(
+    links: &mut IndexMap<u32, Shown<S, E>>,
     link: u32,
-    kept: Option<Shown<'a>>,
+    kept: Option<Shown<S, E>>,
 ) -> Result<(), Memory>
     ensures { kept_at links.old.entries link ≡ None
-        → OnOk result (IsAppended links.old.entries links.new.entries link kept.entry) }
+        → OnOk result (IsAppended links.old.entries links.new.entries link kept) }
 {
     if let Some(shown) = kept {
         drop(links.insert(link, shown)?);
@@ -156,40 +149,40 @@ fn put<'a>(
 }
 
 /// Hands a link that was made what its act has led to.
-pub(crate) fn pass<L: Ledger>(
+pub(crate) fn pass<A: Engines>(
     alloc: Global,
-    links: &mut IndexMap<u32, Shown>,
+    links: &mut IndexMap<u32, Shown<A::Session, A::End>>,
+    engines: &A,
     link: u32,
     effect: Effect,
-    steps: &mut Steps<L>,
+    steps: &mut A::Steps,
 ) -> Result<(), Memory>
     requires { IsTakenAt (kept_at links.old.entries link) effect }
     ensures others { KeepsOthers links.old.entries links.new.entries link }
-    ensures after { OnOk result (AfterAt (kept_at links.old.entries link) effect (kept_at links.new.entries link)) }
+    ensures after { OnOk result (AfterAt (A.known engines.now) (kept_at links.old.entries link) effect
+        (kept_at links.new.entries link)) }
 {
     match links.get_mut(&link) {
-        Some(shown) => shown.pass(alloc, effect, steps),
+        Some(shown) => pass_on(shown, alloc, engines, effect, steps),
         None => Ok(()),
     }
 }
 
 /// Makes a link, by what the proxy answered.
-pub(crate) fn make<'a>(
+pub(crate) fn make<A: Engines>(
     alloc: Global,
-    links: &mut IndexMap<u32, Shown<'a>>,
-    bundle: &'a Bundle,
-    bound: u64,
+    links: &mut IndexMap<u32, Shown<A::Session, A::End>>,
+    engines: &A,
     event: &Event,
     effect: Effect,
 ) -> Result<(), Memory>
-    requires formed { IsFormed event.now.act }
-    requires names { AreFileNames (map (λ f. f.name) bundle.now.files) }
+    requires { IsFormed event.now.act }
     ensures { (journal : List Entry) → is_made_by event.now.act ≡ true
         → kept_at links.old.entries event.now.link ≡ None
-        → (lead journal New (act_of bundle.now bound New event.now.act)).effect ≡ Some effect
-        → OnOk result (IsMadeIn bundle.now bound links.old.entries links.new.entries event.now.link
-        (lead journal New (act_of bundle.now bound New event.now.act)).link) }
+        → (lead journal New (act_of (A.known engines.now) New event.now.act)).effect ≡ Some effect
+        → OnOk result (IsMadeIn (A.known engines.now) links.old.entries links.new.entries event.now.link
+        (lead journal New (act_of (A.known engines.now) New event.now.act)).link) }
 {
-    let kept = opened(alloc, bundle, bound, &event.act, effect)?;
+    let kept = opened(alloc, engines, &event.act, effect)?;
     put(links, event.link, kept)
 }

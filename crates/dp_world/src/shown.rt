@@ -1,16 +1,17 @@
 //! What the transcript shows of a link.
 ghost use Rattle.std.specs.Prelude.{◌≡◌, IfOk, OnOk};
+ghost use Rattle.dp_proxy.specs.declared.events.Effect.TheVariants as told;
+ghost use Rattle.dp_world.specs.inner.Changes.{IsReadable, Reads, replied, received, IsTaken, Takes, After};
 
-use crate::engine::Engine;
-use dp_engine::Steps;
+use crate::engine::{Engine, take_in};
+use crate::engines::Engines;
 use dp_proxy::{Effect, Refusal};
 use dp_value::{Bytes, Memory};
 use std::alloc::Global;
-use std::sync::ledger::Ledger;
 
 /// What the transcript shows of a link that was made.
 #[derive(Drop)]
-pub(crate) enum Shown<'a> {
+pub(crate) enum Shown<S, E> {
     /// An IDE of this host, and what it was sent: nothing, where it was not answered.
     Registration {
         host: Bytes,
@@ -26,14 +27,11 @@ pub(crate) enum Shown<'a> {
         key: Bytes,
         host: Bytes,
         port: u16,
-        engine: Engine<'a>,
+        engine: Engine<S, E>,
     },
 }
 
-impl<'a> Shown<'a> {
-    ghost use Rattle.dp_proxy.specs.declared.events.Effect.TheVariants as told;
-    ghost use Rattle.dp_world.specs.inner.Changes.{IsReadable, Reads, replied, received, IsTaken, Takes, After};
-
+impl<S, E> Shown<S, E> {
     /// The next bytes of its engine, at most so many; none where there is no engine.
     pub(crate) fn read(&mut self, alloc: Global, count: u32) -> Result<Bytes, Memory>
         requires { IsReadable self.old }
@@ -74,55 +72,57 @@ impl<'a> Shown<'a> {
             engine.receive(frames);
         }
     }
+}
 
-    /// The engine of a session takes these whole commands.
-    fn take<L: Ledger>(
-        &mut self,
-        alloc: Global,
-        commands: &[u8],
-        steps: &mut Steps<L>,
-    ) -> Result<(), Memory>
-        requires { IsTaken self.old (told.ToEngine commands.now) }
-        ensures { OnOk result (Takes self.old commands.now self.new) }
-    {
-        match self {
-            Shown::Session {
-                key: _,
-                host: _,
-                port: _,
-                engine,
-            } => engine.take(alloc, commands, steps),
-            _ => Ok(()),
-        }
+/// The engine of a session takes these whole commands.
+fn take<A: Engines>(
+    shown: &mut Shown<A::Session, A::End>,
+    alloc: Global,
+    engines: &A,
+    commands: &[u8],
+    steps: &mut A::Steps,
+) -> Result<(), Memory>
+    requires { IsTaken shown.old (told.ToEngine commands.now) }
+    ensures { OnOk result (Takes (A.known engines.now) shown.old commands.now shown.new) }
+{
+    match shown {
+        Shown::Session {
+            key: _,
+            host: _,
+            port: _,
+            engine,
+        } => take_in(engine, alloc, engines, commands, steps),
+        _ => Ok(()),
     }
+}
 
-    /// Takes what an act on its link has led to.
-    pub(crate) fn pass<L: Ledger>(
-        &mut self,
-        alloc: Global,
-        effect: Effect,
-        steps: &mut Steps<L>,
-    ) -> Result<(), Memory>
-        requires { IsTaken self.old effect }
-        ensures { OnOk result (After self.old effect self.new) }
-    {
-        match effect {
-            Effect::Reply(frame) => {
-                self.reply_with(frame);
-                Ok(())
-            }
-            Effect::ToIde(frames) => {
-                self.receive(frames.as_slice());
-                Ok(())
-            }
-            Effect::ToEngine(commands) => self.take(alloc, commands.as_slice(), steps),
-            Effect::Nothing => Ok(()),
-            Effect::Admitted {
-                session: _,
-                host: _,
-                port: _,
-            } => Ok(()),
-            Effect::Turned(_) => Ok(()),
+/// It takes what an act on its link has led to.
+pub(crate) fn pass_on<A: Engines>(
+    shown: &mut Shown<A::Session, A::End>,
+    alloc: Global,
+    engines: &A,
+    effect: Effect,
+    steps: &mut A::Steps,
+) -> Result<(), Memory>
+    requires { IsTaken shown.old effect }
+    ensures { OnOk result (After (A.known engines.now) shown.old effect shown.new) }
+{
+    match effect {
+        Effect::Reply(frame) => {
+            shown.reply_with(frame);
+            Ok(())
         }
+        Effect::ToIde(frames) => {
+            shown.receive(frames.as_slice());
+            Ok(())
+        }
+        Effect::ToEngine(commands) => take(shown, alloc, engines, commands.as_slice(), steps),
+        Effect::Nothing => Ok(()),
+        Effect::Admitted {
+            session: _,
+            host: _,
+            port: _,
+        } => Ok(()),
+        Effect::Turned(_) => Ok(()),
     }
 }

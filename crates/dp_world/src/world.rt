@@ -1,96 +1,89 @@
 //! All links of a replay: the proxy, and the engines behind it.
-ghost use Rattle.std.specs.Prelude.{◌≡◌, [], ◌∷◌, ◌++◌, ℕ, List, map, IfOk, OnOk};
-ghost use Rattle.dp_tree.specs.FileNames.{AreFileNames};
-ghost use Rattle.dp_tree.specs.declared.bundle.Bundle.{Bundle as Program};
+ghost use Rattle.std.specs.Prelude.{◌≡◌, [], ◌∷◌, ◌++◌, List, IfOk, OnOk};
 ghost use Rattle.dp_events.specs.declared.event.Event.{Event as OneEvent};
 ghost use Rattle.dp_events.specs.Lists.{AllFit, Fits};
+ghost use Rattle.dp_world.specs.Alone.{Engines as Known};
 ghost use Rattle.dp_world.specs.Engines.{past_of};
 ghost use Rattle.dp_world.specs.inner.KeptLinks.{AreShown, IsWorldAfter, MayTake, made};
 ghost use Rattle.std.specs.Map.{keys_of};
 
+use crate::engines::Engines;
 use crate::links::{brought, make, makes, pass};
 use crate::shown::Shown;
-use dp_engine::Steps;
 use dp_events::Event;
 use dp_proxy::{Event as ProxyEvent, Proxy, ProxyError};
-use dp_tree::Bundle;
 use dp_value::Memory;
 use indexmap::IndexMap;
 use std::alloc::Global;
-use std::sync::ledger::Ledger;
 
 /// A proxy, and the links in the order in which they were made.
 #[derive(Drop)]
-pub(crate) struct World<'a> {
+pub(crate) struct World<S, E> {
     proxy: Proxy,
-    links: IndexMap<u32, Shown<'a>>,
+    links: IndexMap<u32, Shown<S, E>>,
 }
 
-impl<'a> World<'a> {
+impl<S: Drop, E: Drop> World<S, E> {
     /// Before any event. Takes no memory.
-    fn new(alloc: Global) -> World<'a>
-        ensures { (bundle : Program) (bound : ℕ) → IsWorldAfter bundle bound [] result.proxy result.links.entries }
+    fn new(alloc: Global) -> World<S, E>
+        ensures { (engines : Known S E) → IsWorldAfter engines [] result.proxy result.links.entries }
     {
         World {
             proxy: Proxy::new(alloc),
             links: IndexMap::new(alloc),
         }
     }
+}
 
-    /// Takes one event. Once memory ran out it has failed for good.
-    fn take<L: Ledger>(
-        &mut self,
-        alloc: Global,
-        bundle: &'a Bundle,
-        bound: u64,
-        event: &Event,
-        steps: &mut Steps<L>,
-    ) -> Result<(), Memory>
-        requires names { AreFileNames (map (λ f. f.name) bundle.now.files) }
-        requires may { MayTake bundle.now bound self.old.proxy self.old.links.entries event.now }
-        ensures { (events : List OneEvent)
-            → IsWorldAfter bundle.now bound events self.old.proxy self.old.links.entries
-            → Fits events event.now
-            → OnOk result
-            (IsWorldAfter bundle.now bound (events ++ event.now ∷ []) self.new.proxy self.new.links.entries) }
-    {
-        let act = brought(alloc, &mut self.links, event)?;
-        let came = ProxyEvent {
-            link: event.link,
-            act,
-        };
-        match self.proxy.step(&came) {
-            Ok(effect) => {
-                if makes(&event.act) {
-                    make(alloc, &mut self.links, bundle, bound, event, effect)
-                } else {
-                    pass(alloc, &mut self.links, event.link, effect, steps)
-                }
+/// It takes one event. Once memory ran out it has failed for good.
+fn take<A: Engines>(
+    world: &mut World<A::Session, A::End>,
+    alloc: Global,
+    engines: &A,
+    event: &Event,
+    steps: &mut A::Steps,
+) -> Result<(), Memory>
+    requires { MayTake (A.known engines.now) world.old.proxy world.old.links.entries event.now }
+    ensures { (events : List OneEvent)
+        → IsWorldAfter (A.known engines.now) events world.old.proxy world.old.links.entries
+        → Fits events event.now
+        → OnOk result
+        (IsWorldAfter (A.known engines.now) (events ++ event.now ∷ []) world.new.proxy world.new.links.entries) }
+{
+    let act = brought(alloc, &mut world.links, event)?;
+    let came = ProxyEvent {
+        link: event.link,
+        act,
+    };
+    match world.proxy.step(&came) {
+        Ok(effect) => {
+            if makes(&event.act) {
+                make(alloc, &mut world.links, engines, event, effect)
+            } else {
+                pass(alloc, &mut world.links, engines, event.link, effect, steps)
             }
-            Err(ProxyError::Memory) => Err(Memory),
-            Err(ProxyError::BadInit) => Ok(()),
-            Err(ProxyError::BadFrame { offset: _ }) => Ok(()),
         }
+        Err(ProxyError::Memory) => Err(Memory),
+        Err(ProxyError::BadInit) => Ok(()),
+        Err(ProxyError::BadFrame { offset: _ }) => Ok(()),
     }
 }
 
 /// What the transcript shows of the links that these events make.
-pub(crate) fn follow<'a, L: Ledger>(
+pub(crate) fn follow<A: Engines>(
     alloc: Global,
-    bundle: &'a Bundle,
-    bound: u64,
+    engines: &A,
     events: &[Event],
-    steps: &mut Steps<L>,
-) -> Result<IndexMap<u32, Shown<'a>>, Memory>
-    requires names { AreFileNames (map (λ f. f.name) bundle.now.files) }
-    requires fit { AllFit [] events.now }
+    steps: &mut A::Steps,
+) -> Result<IndexMap<u32, Shown<A::Session, A::End>>, Memory>
+    requires { AllFit [] events.now }
     ensures keys { IfOk result (λ links. keys_of links.entries ≡ made events.now) }
     ensures shown { IfOk result (λ links.
-        AreShown bundle.now bound (past_of bundle.now bound events.now) links.entries) }
+        AreShown (A.known engines.now) (past_of (A.known engines.now) events.now) links.entries) }
 {
     let mut world = World::new(alloc);
     'events: for event in events {
-        match world.take(alloc, bundle, bound, event, steps) {
+        match take(&mut world, alloc, engines, event, steps) {
             Ok(()) => {}
             Err(Memory) => {
                 drop(world);

@@ -2,7 +2,6 @@
 use Rattle.std.specs.Prelude.{◌≡◌, ℕ, ◌==◌, false, List, [], ◌∷◌, ◌++◌, length, take}
 use Rattle.std.specs.Prelude.{map, filter, nat_eq, Option, Some, None}
 use Rattle.std.specs.Map.{lookup, keys_of}
-use Rattle.dp_tree.specs.declared.bundle.Bundle.{Bundle}
 use Rattle.dp_registry.specs.declared.entry.Entry.{Entry}
 use Rattle.dp_registry.specs.declared.pass.Pass.{Pass}
 use Rattle.dp_lanes.specs.declared.lane.LaneKind.TheVariants.{Up}
@@ -16,6 +15,7 @@ use Rattle.dp_proxy.specs.Invariant.{Keeps, Represents}
 use Rattle.dp_events.specs.declared.event.Act.{Act}
 use Rattle.dp_events.specs.declared.event.Event.{Event}
 use Rattle.dp_events.specs.Lists.{Fits, makes}
+use Rattle.dp_world.specs.Alone.{Engines}
 use Rattle.dp_world.specs.declared.engine.Engine.{Engine}
 use Rattle.dp_world.specs.declared.shown.Shown.{Shown}
 use Rattle.dp_world.specs.declared.shown.Shown.TheVariants as shown
@@ -34,49 +34,51 @@ abbrev pub IsTo : List ℕ → Pass → List ℕ → List ℕ → ℕ → Type 0
 IsTo key pass name host port = (name ≡ key) × (host ≡ pass.host) × (port ≡ pass.port)
 
 -- this engine has the session of the link
-abbrev pub Has : Bundle → ℕ → Link → List ℕ → List ℕ → ℕ → Engine → Type 0
-Has bundle bound (Joined key pass acts) name host port engine =
-    IsTo key pass name host port × IsEngineAfter bundle bound key acts engine
+abbrev pub Has : {S E : Type 0} → Engines S E → Link → List ℕ → List ℕ → ℕ → Engine S E → Type 0
+Has engines (Joined key pass acts) name host port engine =
+    IsTo key pass name host port × IsEngineAfter engines key acts engine
     × IsReadFor acts engine
-Has bundle bound (Ended key pass acts) name host port engine =
-    IsTo key pass name host port × IsEngineAfter bundle bound key acts engine
-Has bundle bound link name host port engine = ⊥
+Has engines (Ended key pass acts) name host port engine =
+    IsTo key pass name host port × IsEngineAfter engines key acts engine
+Has engines link name host port engine = ⊥
 
-abbrev pub IsShown : Bundle → ℕ → Link → Shown → Type 0
-IsShown bundle bound link (shown.Registration host reply) = IsRegistration link host reply
-IsShown bundle bound link (shown.Refused key why) = link ≡ Refused key why
-IsShown bundle bound link (shown.Session key host port engine) =
-    Has bundle bound link key host port engine
+abbrev pub IsShown : {S E : Type 0} → Engines S E → Link → Shown S E → Type 0
+IsShown engines link (shown.Registration host reply) = IsRegistration link host reply
+IsShown engines link (shown.Refused key why) = link ≡ Refused key why
+IsShown engines link (shown.Session key host port engine) =
+    Has engines link key host port engine
 
-abbrev pub IsShownAt : Bundle → ℕ → Link → Option Shown → Type 0
-IsShownAt bundle bound link None = link ≡ New
-IsShownAt bundle bound link (Some kept) = IsShown bundle bound link kept
+abbrev pub IsShownAt : {S E : Type 0} → Engines S E → Link → Option (Shown S E) → Type 0
+IsShownAt engines link None = link ≡ New
+IsShownAt engines link (Some kept) = IsShown engines link kept
 
 -- ---- one link for which an act is brought
 
 -- what was read of the engine is what it was asked for with the act too
-pub record IsReadWith (acts : List ProxyAct) (act : ProxyAct) (engine : Engine) : Type 0 where
+pub record IsReadWith {S E : Type 0} (acts : List ProxyAct) (act : ProxyAct)
+    (engine : Engine S E) : Type 0 where
   pub all : IsReadFor (acts ++ act ∷ []) engine
   pub up : stream Up (acts ++ act ∷ [])
       ≡ take (length (stream Up (acts ++ act ∷ []))) engine.sent.items
 
-abbrev pub HasFor : Bundle → ℕ → Link → ProxyAct → List ℕ → List ℕ → ℕ → Engine → Type 0
-HasFor bundle bound (Joined key pass acts) act name host port engine =
-    IsTo key pass name host port × IsEngineAfter bundle bound key acts engine
+abbrev pub HasFor : {S E : Type 0} → Engines S E → Link → ProxyAct → List ℕ → List ℕ → ℕ
+    → Engine S E → Type 0
+HasFor engines (Joined key pass acts) act name host port engine =
+    IsTo key pass name host port × IsEngineAfter engines key acts engine
     × IsReadWith acts act engine
-HasFor bundle bound (Ended key pass acts) act name host port engine =
-    IsTo key pass name host port × IsEngineAfter bundle bound key acts engine
-HasFor bundle bound link act name host port engine = ⊥
+HasFor engines (Ended key pass acts) act name host port engine =
+    IsTo key pass name host port × IsEngineAfter engines key acts engine
+HasFor engines link act name host port engine = ⊥
 
-abbrev pub IsReady : Bundle → ℕ → Link → ProxyAct → Shown → Type 0
-IsReady bundle bound link act (shown.Registration host reply) = IsRegistration link host reply
-IsReady bundle bound link act (shown.Refused key why) = link ≡ Refused key why
-IsReady bundle bound link act (shown.Session key host port engine) =
-    HasFor bundle bound link act key host port engine
+abbrev pub IsReady : {S E : Type 0} → Engines S E → Link → ProxyAct → Shown S E → Type 0
+IsReady engines link act (shown.Registration host reply) = IsRegistration link host reply
+IsReady engines link act (shown.Refused key why) = link ≡ Refused key why
+IsReady engines link act (shown.Session key host port engine) =
+    HasFor engines link act key host port engine
 
-abbrev pub IsReadyAt : Bundle → ℕ → Link → ProxyAct → Option Shown → Type 0
-IsReadyAt bundle bound link act None = link ≡ New
-IsReadyAt bundle bound link act (Some kept) = IsReady bundle bound link act kept
+abbrev pub IsReadyAt : {S E : Type 0} → Engines S E → Link → ProxyAct → Option (Shown S E) → Type 0
+IsReadyAt engines link act None = link ≡ New
+IsReadyAt engines link act (Some kept) = IsReady engines link act kept
 
 -- an act makes no link
 abbrev pub Passes : ProxyAct → Type 0
@@ -85,18 +87,19 @@ Passes (proxy.Engine key) = ⊥
 Passes act = Unit {0}
 
 -- the act leads to what that of the definitions leads to
-abbrev pub LeadsAs : Bundle → ℕ → Link → Act → ProxyAct → Type 0
-LeadsAs bundle bound link act brought =
+abbrev pub LeadsAs : {S E : Type 0} → Engines S E → Link → Act → ProxyAct → Type 0
+LeadsAs engines link act brought =
     (journal : List Entry) → lead journal link brought
-    ≡ lead journal link (act_of bundle bound link act)
+    ≡ lead journal link (act_of engines link act)
 
 -- ---- all links
 
-abbrev pub kept_at : List (ℕ × Shown) → ℕ → Option Shown
+abbrev pub kept_at : {S E : Type 0} → List (ℕ × Shown S E) → ℕ → Option (Shown S E)
 kept_at links number = lookup (nat_eq number) links
 
 -- these are the same links, and but for this one as they were
-pub record KeepsOthers (links after : List (ℕ × Shown)) (number : ℕ) : Type 0 where
+pub record KeepsOthers {S E : Type 0} (links after : List (ℕ × Shown S E)) (number : ℕ)
+    : Type 0 where
   pub keys : keys_of after ≡ keys_of links
   pub others : (other : ℕ) → (number == other) ≡ false → kept_at after other ≡ kept_at links other
 
@@ -104,22 +107,22 @@ pub record KeepsOthers (links after : List (ℕ × Shown)) (number : ℕ) : Type
 abbrev pub made : List Event → List ℕ
 made events = map (λ e. e.link) (filter (λ e. makes e.act) events)
 
-abbrev pub AreShown : Bundle → ℕ → Past → List (ℕ × Shown) → Type 0
-AreShown bundle bound past links =
-    (number : ℕ) → IsShownAt bundle bound (past.link number) (kept_at links number)
+abbrev pub AreShown : {S E : Type 0} → Engines S E → Past → List (ℕ × Shown S E) → Type 0
+AreShown engines past links =
+    (number : ℕ) → IsShownAt engines (past.link number) (kept_at links number)
 
 -- a proxy and its links, after these events
-pub record IsWorldAfter (bundle : Bundle) (bound : ℕ) (events : List Event) (keeps : Keeps)
-    (links : List (ℕ × Shown)) : Type 0 where
+pub record IsWorldAfter {S E : Type 0} (engines : Engines S E) (events : List Event) (keeps : Keeps)
+    (links : List (ℕ × Shown S E)) : Type 0 where
   pub came : List ProxyEvent
   pub represents : Represents keeps came
-  pub past : core.past_of came ≡ past_of bundle bound events
+  pub past : core.past_of came ≡ past_of engines events
   pub keys : keys_of links ≡ made events
-  pub each : AreShown bundle bound (past_of bundle bound events) links
+  pub each : AreShown engines (past_of engines events) links
 
 -- one more event fits those that came
-pub record MayTake (bundle : Bundle) (bound : ℕ) (keeps : Keeps) (links : List (ℕ × Shown))
-    (event : Event) : Type 0 where
+pub record MayTake {S E : Type 0} (engines : Engines S E) (keeps : Keeps)
+    (links : List (ℕ × Shown S E)) (event : Event) : Type 0 where
   pub events : List Event
-  pub world : IsWorldAfter bundle bound events keeps links
+  pub world : IsWorldAfter engines events keeps links
   pub fits : Fits events event

@@ -5,8 +5,8 @@ use Rattle.std.specs.List.{AllByRecursion}
 use Rattle.dp_outside.specs.Causes.{Rose}
 use Rattle.dp_outside.specs.Changes.{Change}
 use Rattle.dp_outside.specs.Streams.{AppendsFront}
-use Rattle.dp_tree.specs.declared.bundle.Bundle.{Bundle}
 use Rattle.dp_proxy.specs.Pasts.{Past}
+use Rattle.dp_world.specs.Alone.{Engines}
 use Rattle.dp_world.specs.declared.errors.ReplayError.{ReplayError}
 use Rattle.dp_world.specs.declared.errors.ReplayError.TheVariants.{OutFault, Memory}
 use Rattle.dp_world.specs.declared.shown.Shown.{Shown}
@@ -21,13 +21,13 @@ Writes (Err OutFault) text out =
 Writes (Err Memory) text out = AppendsFront out.told_before out.told text
 
 -- the lines of one link, and of these in their order
-abbrev pub lines_at : Bundle → ℕ → Past → ℕ × Shown → List ℕ
-lines_at bundle bound past entry = shown bundle bound entry.0 (past.link entry.0)
+abbrev pub lines_at : {S E : Type 0} → Engines S E → Past → ℕ × Shown S E → List ℕ
+lines_at engines past entry = shown engines entry.0 (past.link entry.0)
 
-abbrev pub lines_of : Bundle → ℕ → Past → List (ℕ × Shown) → List ℕ
-lines_of bundle bound past links = flat_map (lines_at bundle bound past) links
+abbrev pub lines_of : {S E : Type 0} → Engines S E → Past → List (ℕ × Shown S E) → List ℕ
+lines_of engines past links = flat_map (lines_at engines past) links
 
 -- what is kept of each is what is known of it
-abbrev pub AllShown : Bundle → ℕ → Past → List (ℕ × Shown) → Type 0
-AllShown bundle bound past links =
-    AllByRecursion (λ entry. IsShown bundle bound (past.link entry.0) entry.1) links
+abbrev pub AllShown : {S E : Type 0} → Engines S E → Past → List (ℕ × Shown S E) → Type 0
+AllShown engines past links =
+    AllByRecursion (λ entry. IsShown engines (past.link entry.0) entry.1) links

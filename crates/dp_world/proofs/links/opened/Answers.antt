@@ -9,9 +9,9 @@ use Rattle.dp_world.specs.inner.KeptLinks.{IsRegistration, IsShownAt}
 use Rattle.dp_world.proofs.links.opened.Goals as goal
 
 pub returns-in_ok-host-in-Ide : goal.returns-in_ok-host-in-Ide
-returns-in_ok-host-in-Ide c = λ journal is told. (
+returns-in_ok-host-in-Ide g c = λ journal is told. (
   refl,
-  subst (λ (a : Act). IsRegistration (lead journal New (act_of c.args.bundle.now c.args.bound New a)).link
+  subst (λ (a : Act). IsRegistration (lead journal New (act_of (g.A.Engines.known c.args.engines.now) New a)).link
       c.in_ok-host-in-Ide.host c.of-reply.result) (sym c.in-Ide.is)
       (subst (λ (t : Lead). IsRegistration t.link c.in_ok-host-in-Ide.host c.of-reply.result)
       (sym (ide_comes journal c.in-Ide.host))
@@ -19,13 +19,13 @@ returns-in_ok-host-in-Ide c = λ journal is told. (
 )
 
 pub returns-in-Engine : goal.returns-in-Engine
-returns-in-Engine c = λ journal is told.
+returns-in-Engine g c = λ journal is told.
     let key = c.in-Engine.key in
     let verdict = admit_verdict journal key in
-    let turned = ap (λ (a : Act). lead journal New (act_of c.args.bundle.now c.args.bound New a)) c.in-Engine.is ∙
-    engine_comes journal key verdict refl in
+    let turned = ap (λ (a : Act). lead journal New (act_of (g.A.Engines.known c.args.engines.now) New a)) c.in-Engine.is
+    ∙ engine_comes journal key verdict refl in
     let same : c.args.effect ≡ admission verdict = sym (same_Some (admission verdict) c.args.effect
     (sym (ap (λ (t : Lead). t.effect) turned) ∙ told)) in
     subst (λ (t : Lead). IfOk c.joined.result (λ kept. (is_some kept ≡ true)
-    × IsShownAt c.args.bundle.now c.args.bound t.link kept)) (sym turned)
+    × IsShownAt (g.A.Engines.known c.args.engines.now) t.link kept)) (sym turned)
     (c.joined.ensures verdict same)

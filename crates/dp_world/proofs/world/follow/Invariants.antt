@@ -4,4 +4,4 @@ use Rattle.dp_world.proofs.world.follow.Given as goal
 
 abbrev pub invariant-events : goal.invariant-events
 invariant-events g l =
-    IsWorldAfter l.fn.bundle l.fn.bound (take l.event-index l.events) l.world.proxy l.world.links.entries
+    IsWorldAfter (g.A.Engines.known l.fn.engines) (take l.event-index l.events) l.world.proxy l.world.links.entries
