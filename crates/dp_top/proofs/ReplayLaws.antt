@@ -16,6 +16,7 @@ use Rattle.dp_program.specs.declared.errors.ProgramError.TheVariants as none
 use Rattle.dp_program.specs.Programs.{AreFetched, Files, IsComplete as IsRunComplete, IsUnmade, IsUnread, NamesMake, ProgramCaused, RequestedNames}
 use Rattle.dp_program.proofs.RunLaws.{program_caused, program_made}
 use Rattle.dp_world.specs.declared.errors.ReplayError.TheVariants as ends
+use Rattle.dp_top.specs.Engines.{engines_of}
 use Rattle.dp_world.specs.Replays.{Replays}
 use Rattle.dp_top.specs.declared.failures.Failure.{Failure}
 use Rattle.dp_top.specs.declared.failures.Failure.TheVariants as failure
@@ -137,8 +138,8 @@ over_complete (Ok made) program (Err why) list bound before after out h over = b
       → (status_of why.failure ≡ 201 → ⊥) × (why.failure ≡ failure.NoFile → ⊥)
   good w is p q = ((λ e. p (sym (ap status_of is) ∙ e)), (λ e. q (sym is ∙ e)))
 
-  by : ((why.failure ≡ failure.Output) × Replays (Err ends.OutFault) program bound list out)
-      ⊎ ((why.failure ≡ failure.Memory) × Replays (Err ends.Memory) program bound list out)
+  by : ((why.failure ≡ failure.Output) × Replays (Err ends.OutFault) (engines_of program bound) list out)
+      ⊎ ((why.failure ≡ failure.Memory) × Replays (Err ends.Memory) (engines_of program bound) list out)
       → (status_of why.failure ≡ 201 → ⊥) × (why.failure ≡ failure.NoFile → ⊥)
   by (inl o) = good failure.Output o.0 (λ e. omega (arith, e)) (λ e. absurd cc)
   by (inr m) = good failure.Memory m.0 (λ e. omega (arith, e)) (λ e. absurd cc)
@@ -188,8 +189,8 @@ module _ (files : Files) (before after : ℕ) (events : List ℕ) (ask : Invocat
         made : NamesMake files ask.names (Ok program)
         made = program_made files before after ask.names fetched are (Ok program) makes
 
-        by : ((why.failure ≡ failure.Output) × Replays (Err ends.OutFault) program ask.bound list out)
-            ⊎ ((why.failure ≡ failure.Memory) × Replays (Err ends.Memory) program ask.bound list out)
+        by : ((why.failure ≡ failure.Output) × Replays (Err ends.OutFault) (engines_of program ask.bound) list out)
+            ⊎ ((why.failure ≡ failure.Memory) × Replays (Err ends.Memory) (engines_of program ask.bound) list out)
             → ReplayFails why.failure why.name.now events ask files before after out
         by (inl e) = inr (inr (inr (record {
           is_why = e.0;

@@ -1,5 +1,6 @@
 pub mod Lines
 pub mod Engine
+pub mod Engines
 pub mod Failures
 pub mod Ide
 pub mod Replay

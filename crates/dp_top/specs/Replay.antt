@@ -10,6 +10,7 @@ use Rattle.dp_program.specs.declared.errors.ProgramError.TheVariants as none
 use Rattle.dp_program.specs.Programs.{Files, NamesMake, ProgramCaused}
 use Rattle.dp_world.specs.declared.errors.ReplayError.{ReplayError}
 use Rattle.dp_world.specs.declared.errors.ReplayError.TheVariants as ends
+use Rattle.dp_top.specs.Engines.{engines_of}
 use Rattle.dp_world.specs.Replays.{Replays}
 use Rattle.dp_top.specs.declared.failures.Failure.{Failure}
 use Rattle.dp_top.specs.declared.failures.Failure.TheVariants as failure
@@ -39,7 +40,7 @@ pub record IsReplayed (end : Result (Unit {0}) ReplayError) (name : List ℕ) (a
   pub held : IsListFile files name events
   pub program : Bundle
   pub made : NamesMake files ask.names (Ok program)
-  pub replays : Replays end program ask.bound events out
+  pub replays : Replays end (engines_of program ask.bound) events out
 
 abbrev pub DoesReplay : ℕ → List ℕ → Invocation → Files → Change → Type 0
 DoesReplay status events ask files out =

@@ -3,6 +3,7 @@
 
 mod commands;
 mod engine;
+mod engines;
 mod failures;
 mod ide;
 mod lines;

@@ -19,6 +19,7 @@ ghost use Rattle.dp_top.specs.inner.BadLines.{AreNone, UnreadSo};
 ghost use Rattle.dp_top.specs.inner.Completeness.{IsComplete};
 ghost use Rattle.dp_top.specs.inner.EventLists.{CompleteFetched, EndsFetched, EndsOver, EndsReplay, IsWholeList};
 
+use crate::engines;
 use crate::failures::{Failure, Refused};
 use crate::lines::{LINES_LIMIT, unfetched};
 use crate::run::refusal_of_program;
@@ -87,7 +88,7 @@ fn replay_over<'a, K: Sink, L: Ledger>(
     ensures out_later { K.faults out.old ≤ K.faults out.new }
 {
     let mut steps = Steps::<L>::new(blank);
-    match dp_world::replay(alloc, events, bundle, bound, out, &mut steps) {
+    match engines::replay(alloc, events, bundle, bound, out, &mut steps) {
         Ok(()) => Ok(0),
         Err(ReplayError::OutFault) => Err(Refused::unnamed(Failure::Output)),
         Err(ReplayError::Memory) => Err(Refused::unnamed(Failure::Memory)),

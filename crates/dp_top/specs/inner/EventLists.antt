@@ -9,6 +9,7 @@ use Rattle.dp_bundle.specs.declared.errors.BundleError.{BundleError}
 use Rattle.dp_program.specs.Programs.{AreFetched, Files, FilesMake}
 use Rattle.dp_tree.specs.declared.bundle.Bundle.{Bundle}
 use Rattle.dp_world.specs.declared.errors.ReplayError.TheVariants as ends
+use Rattle.dp_top.specs.Engines.{engines_of}
 use Rattle.dp_world.specs.Replays.{Replays}
 use Rattle.dp_top.specs.declared.failures.Failure.TheVariants as failure
 use Rattle.dp_top.specs.declared.failures.Refused.{Refused}
@@ -25,11 +26,12 @@ pub record IsWholeList (bytes : List ℕ) (events : List Event) : Type 0 where
 -- how a replay of this list over this program ends
 abbrev pub EndsOver : Result ℕ Refused → List Event → Bundle → ℕ → Change → Type 0
 EndsOver (Ok status) events program bound out =
-    (status ≡ 0) × Replays (Ok tt) program bound events out
+    (status ≡ 0) × Replays (Ok tt) (engines_of program bound) events out
 EndsOver (Err why) events program bound out =
     (why.name.now ≡ []) × (((why.failure ≡ failure.Output)
-    × Replays (Err ends.OutFault) program bound events out)
-    ⊎ ((why.failure ≡ failure.Memory) × Replays (Err ends.Memory) program bound events out))
+    × Replays (Err ends.OutFault) (engines_of program bound) events out)
+    ⊎ ((why.failure ≡ failure.Memory)
+    × Replays (Err ends.Memory) (engines_of program bound) events out))
 
 -- how a replay ends
 abbrev pub EndsReplay : Result ℕ Refused → List ℕ → Invocation → Files → ℕ → ℕ → Change → Type 0
