@@ -1,0 +1,2 @@
+-- What the functions inside the crate say of themselves. No clause of a public call speaks of it.
+pub mod Turns
