@@ -1,5 +1,5 @@
 -- How the source and the sink of a link stand, and what they gave and took in between.
-use Rattle.std.specs.Prelude.{◌≡◌, ℕ, ◌≤◌, List, ⊤}
+use Rattle.std.specs.Prelude.{◌≡◌, ℕ, ◌≤◌, List}
 use Rattle.std.specs.declared.option.Option.{Option}
 use Rattle.std.specs.Io.KnownBytes.{Appends, Consumes}
 use Rattle.dp_outside.specs.Causes.{Rose}
@@ -49,17 +49,28 @@ pub record IsFresh (e : Ends) : Type 0 where
 
 -- ---- between two times
 
--- the source gave these bytes
-pub record Gave (a b : Ends) (bytes : List ℕ) : Type 0 where
-  pub given : Appends a.given b.given bytes
-  pub left : Consumes a.left b.left bytes
-  pub untold_given : StaysSilent a.given b.given
-  pub untold_left : StaysSilent a.left b.left
+-- A source gave these bytes: they stand behind what it had given, and they began what it had left.
+-- One that tells nothing never begins to tell.
+pub record Gives (ahead rest before after : Option (List ℕ)) (bytes : List ℕ) : Type 0 where
+  pub given : Appends before after bytes
+  pub left : Consumes ahead rest bytes
+  pub untold_given : StaysSilent before after
+  pub untold_left : StaysSilent ahead rest
 
--- the sink took these bytes
-pub record Took (a b : Ends) (bytes : List ℕ) : Type 0 where
-  pub taken : Appends a.taken b.taken bytes
-  pub untold : StaysSilent a.taken b.taken
+-- a sink took these bytes: they stand behind what it had taken
+pub record Takes (before after : Option (List ℕ)) (bytes : List ℕ) : Type 0 where
+  pub taken : Appends before after bytes
+  pub untold : StaysSilent before after
+
+abbrev pub Gave : Ends → Ends → List ℕ → Type 0
+Gave a b bytes = Gives a.left b.left a.given b.given bytes
+
+abbrev pub Took : Ends → Ends → List ℕ → Type 0
+Took a b bytes = Takes a.taken b.taken bytes
+
+-- a count of faults rose
+abbrev pub Failed : ℕ → ℕ → Type 0
+Failed before now = (before ≤ now) × Rose before now
 
 abbrev pub SourceHeld : Ends → Ends → Type 0
 SourceHeld a b = b.source_faults ≡ a.source_faults
@@ -68,8 +79,7 @@ abbrev pub SinkHeld : Ends → Ends → Type 0
 SinkHeld a b = b.sink_faults ≡ a.sink_faults
 
 abbrev pub SourceFailed : Ends → Ends → Type 0
-SourceFailed a b =
-    (a.source_faults ≤ b.source_faults) × Rose a.source_faults b.source_faults
+SourceFailed a b = Failed a.source_faults b.source_faults
 
 abbrev pub SinkFailed : Ends → Ends → Type 0
-SinkFailed a b = (a.sink_faults ≤ b.sink_faults) × Rose a.sink_faults b.sink_faults
+SinkFailed a b = Failed a.sink_faults b.sink_faults

@@ -1,11 +1,10 @@
 -- What the service of an engine leaves, by how it ended.
 use Rattle.std.specs.Prelude.{◌≡◌, ◌≢◌, ◌⊎◌, ⊤, ℕ, ◌≤◌, Bool, true, List, [], ◌∷◌, Option, None, Some}
-use Rattle.std.specs.Prelude.{Result, Ok, Err}
+use Rattle.std.specs.Prelude.{Ok, Err}
 use Rattle.std.specs.Io.KnownBytes.{IsAtEnd}
-use Rattle.dp_outside.specs.Causes.{Rose}
 use Rattle.dp_outside.specs.Links.{Dial, Link}
 use Rattle.dp_outside.specs.Reports.{grown}
-use Rattle.dp_wire.specs.Frames.{BeginsPacket, IsPartialPacket, packets_in}
+use Rattle.dp_wire.specs.Frames.{BeginsPacket, IsPartialPacket, BeginsNoPacket}
 use Rattle.dp_lanes.specs.declared.lane.LaneKind.TheVariants.{Up, Down}
 use Rattle.dp_lanes.specs.Places.{IsBadIn}
 use Rattle.dp_registry.specs.declared.entry.Entry.TheVariants.{Admit}
@@ -19,22 +18,21 @@ use Rattle.dp_relay.specs.declared.ends.RelayEnd.{RelayEnd}
 use Rattle.dp_relay.specs.declared.ends.RelayEnd.TheVariants.{Joined, BadInit, NoSession, DialFault}
 use Rattle.dp_relay.specs.declared.ends.RelayEnd.TheVariants.{NoThread, ReadFault, BadFrame, Memory}
 use Rattle.dp_relay.specs.declared.ends.LaneEnd.{LaneEnd}
-use Rattle.dp_relay.specs.Ends.{Ends, Gave, SourceHeld, SinkHeld, SourceFailed, IsFresh, crossed, link_of}
+use Rattle.dp_relay.specs.Ends.{Ends, Gave, Failed, SourceHeld, SinkHeld, SourceFailed, IsFresh, crossed, link_of}
 use Rattle.dp_relay.specs.LaneRuns.{LaneRan}
 
--- how all that the service is lent stands: the clerk, the engine's link, the dialer and the spawner
+-- How what a service is lent stands: the engine's link, and of the dialer and the spawner what they
+-- tell and how often they have failed.
 pub record Standing : Type 0 where
-  pub clerk : Known
   pub engine : Ends
   pub dials : Option (List Dial)
   pub dial_faults : ℕ
   pub starts : Option (List Bool)
   pub start_faults : ℕ
 
-abbrev pub standing : Known → Ends → Option (List Dial) → ℕ → Option (List Bool) → ℕ → Standing
-standing clerk engine dials dial_faults starts start_faults =
+abbrev pub standing : Ends → Option (List Dial) → ℕ → Option (List Bool) → ℕ → Standing
+standing engine dials dial_faults starts start_faults =
     record {
-      clerk = clerk;
       engine = engine;
       dials = dials;
       dial_faults = dial_faults;
@@ -57,9 +55,9 @@ IsKeyless bytes left =
     ((text rest : List ℕ) × BeginsPacket bytes text rest × ((key : List ℕ) → GivesKey text key → ⊥))
     ⊎ (IsPartialPacket bytes × IsAtEnd left)
 
--- no whole packet begins the bytes, and this is where they are bad
+-- no packet begins the bytes, however they go on, and this is where they are bad
 abbrev pub IsBadFirst : List ℕ → ℕ → Type 0
-IsBadFirst bytes offset = (packets_in bytes ≡ []) × IsBadIn Up bytes offset
+IsBadFirst bytes offset = BeginsNoPacket bytes × IsBadIn Up bytes offset
 
 -- ---- parts of a service, from how all stood before it to how it stands after it
 
@@ -79,7 +77,8 @@ pub record NoStart (x y : Standing) : Type 0 where
 
 -- one dial, of the IDE of the pass, which made this link or none
 pub record Dialed (x y : Standing) (pass : Pass) (link : Option Link) : Type 0 where
-  pub dials : y.dials ≡ grown x.dials (record { host = pass.host; port = pass.port; made = link } ∷ [])
+  pub dials : y.dials
+      ≡ grown x.dials (record { host = pass.host; port = pass.port; made = link } ∷ [])
   pub later : x.dial_faults ≤ y.dial_faults
 
 -- the clerk was given a session under the key, and dismissed it
@@ -93,44 +92,45 @@ pub record HadSession (v w : Known) (key : List ℕ) (pass : Pass) : Type 0 wher
 -- ---- the ends of a service; the link is that to the IDE, if one is handed back
 
 -- before the desk was asked
-pub record Unasked (x y : Standing) (ide : Option Ends) (cause : List ℕ → Type 0) : Type 0 where
+pub record Unasked (v w : Known) (x y : Standing) (ide : Option Ends)
+    (meets : List ℕ → Type 0) : Type 0 where
   pub read : List ℕ
   pub heard : Heard x y read
-  pub cause : cause read
-  pub clerk : y.clerk ≡ x.clerk
+  pub cause : meets read
+  pub clerk : w ≡ v
   pub no_dial : NoDial x y
   pub no_start : NoStart x y
   pub no_link : ide ≡ None
 
 -- the desk was asked, and refused
-pub record Refused (x y : Standing) (ide : Option Ends) (why : Refusal) : Type 0 where
+pub record Refused (v w : Known) (x y : Standing) (ide : Option Ends) (why : Refusal) : Type 0 where
   pub read : List ℕ
   pub key : List ℕ
   pub heard : Heard x y read
   pub source : SourceHeld x.engine y.engine
   pub comes : ComesWith read key
-  pub asked : Called x.clerk y.clerk (λ journal. admit_verdict journal key)
+  pub called : Called v w (λ journal. admit_verdict journal key)
       (λ reply. Admit key reply) admit_reply_of (Err why)
   pub no_dial : NoDial x y
   pub no_start : NoStart x y
   pub no_link : ide ≡ None
 
 -- the IDE was not reached
-pub record Unreached (x y : Standing) (ide : Option Ends) : Type 0 where
+pub record Unreached (v w : Known) (x y : Standing) (ide : Option Ends) : Type 0 where
   pub read : List ℕ
   pub key : List ℕ
   pub pass : Pass
   pub heard : Heard x y read
   pub source : SourceHeld x.engine y.engine
   pub comes : ComesWith read key
-  pub session : HadSession x.clerk y.clerk key pass
+  pub session : HadSession v w key pass
   pub dialed : Dialed x y pass None
-  pub rose : Rose x.dial_faults y.dial_faults
+  pub failed : Failed x.dial_faults y.dial_faults
   pub no_start : NoStart x y
   pub no_link : ide ≡ None
 
 -- no thread was started: the link is handed back as it was made
-pub record Unstarted (x y : Standing) (ide : Option Ends) : Type 0 where
+pub record Unstarted (v w : Known) (x y : Standing) (ide : Option Ends) : Type 0 where
   pub read : List ℕ
   pub key : List ℕ
   pub pass : Pass
@@ -138,22 +138,23 @@ pub record Unstarted (x y : Standing) (ide : Option Ends) : Type 0 where
   pub heard : Heard x y read
   pub source : SourceHeld x.engine y.engine
   pub comes : ComesWith read key
-  pub session : HadSession x.clerk y.clerk key pass
+  pub session : HadSession v w key pass
   pub fresh : IsFresh link
   pub dialed : Dialed x y pass (Some (link_of link))
   pub start : (granted : Bool) × (y.starts ≡ grown x.starts (granted ∷ []))
-  pub later : x.start_faults ≤ y.start_faults
-  pub rose : Rose x.start_faults y.start_faults
+  pub failed : Failed x.start_faults y.start_faults
   pub untouched : ide ≡ Some link
 
--- both lanes ran, each from all that its source gave: the first frame up is the engine's first packet
-pub record Relayed (x y : Standing) (ide : Option Ends) (number : ℕ) (up down : LaneEnd) : Type 0 where
+-- Both lanes ran, each from all that its source gave: the first frame up is the engine's first
+-- packet.
+pub record Relayed (v w : Known) (x y : Standing) (ide : Option Ends) (number : ℕ)
+    (up down : LaneEnd) : Type 0 where
   pub key : List ℕ
   pub pass : Pass
   pub before : Ends
   pub after : Ends
   pub numbered : number ≡ pass.session
-  pub session : HadSession x.clerk y.clerk key pass
+  pub session : HadSession v w key pass
   pub fresh : IsFresh before
   pub dialed : Dialed x y pass (Some (link_of before))
   pub starts : y.starts ≡ grown x.starts (true ∷ [])
@@ -163,16 +164,17 @@ pub record Relayed (x y : Standing) (ide : Option Ends) (number : ℕ) (up down 
   pub commands : LaneRan Down [] (crossed before x.engine) (crossed after y.engine) down
   pub comes : ComesWith packets.read key
 
-abbrev pub EngineServed : Standing → Standing → Option Ends → RelayEnd → Type 0
-EngineServed x y ide BadInit =
-    Unasked x y ide (λ read. IsKeyless read y.engine.left) × SourceHeld x.engine y.engine
-EngineServed x y ide ReadFault =
-    Unasked x y ide IsPartialPacket × SourceFailed x.engine y.engine
-EngineServed x y ide (BadFrame offset) =
-    Unasked x y ide (λ read. IsBadFirst read offset) × SourceHeld x.engine y.engine
-EngineServed x y ide Memory =
-    (Unasked x y ide (λ read. ⊤) × SourceHeld x.engine y.engine) ⊎ Refused x y ide refusal.Memory
-EngineServed x y ide (NoSession why) = Refused x y ide why × (why ≢ refusal.Memory)
-EngineServed x y ide DialFault = Unreached x y ide
-EngineServed x y ide NoThread = Unstarted x y ide
-EngineServed x y ide (Joined number up down) = Relayed x y ide number up down
+abbrev pub EngineServed : Known → Known → Standing → Standing → Option Ends → RelayEnd → Type 0
+EngineServed v w x y ide BadInit =
+    Unasked v w x y ide (λ read. IsKeyless read y.engine.left) × SourceHeld x.engine y.engine
+EngineServed v w x y ide ReadFault =
+    Unasked v w x y ide IsPartialPacket × SourceFailed x.engine y.engine
+EngineServed v w x y ide (BadFrame offset) =
+    Unasked v w x y ide (λ read. IsBadFirst read offset) × SourceHeld x.engine y.engine
+EngineServed v w x y ide Memory =
+    (Unasked v w x y ide (λ read. ⊤) × SourceHeld x.engine y.engine)
+    ⊎ Refused v w x y ide refusal.Memory
+EngineServed v w x y ide (NoSession why) = Refused v w x y ide why × (why ≢ refusal.Memory)
+EngineServed v w x y ide DialFault = Unreached v w x y ide
+EngineServed v w x y ide NoThread = Unstarted v w x y ide
+EngineServed v w x y ide (Joined number up down) = Relayed v w x y ide number up down

@@ -1,2 +1,3 @@
 -- What the functions inside the crate say of themselves. No clause of a public call speaks of it.
 pub mod Turns
+pub mod Openings

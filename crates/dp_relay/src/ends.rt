@@ -20,7 +20,11 @@ pub enum LaneEnd {
 #[derive(Debug, Drop)]
 pub enum RelayEnd {
     /// It was joined to its IDE: the number of the session, and how its lanes ended.
-    Joined { session: u64, up: LaneEnd, down: LaneEnd },
+    Joined {
+        session: u64,
+        up: LaneEnd,
+        down: LaneEnd,
+    },
     /// Its first packet names no key, or it ended before one.
     BadInit,
     /// It was given no session.
@@ -32,7 +36,9 @@ pub enum RelayEnd {
     /// Its source failed before its first packet.
     ReadFault,
     /// Its first packet is none: here in its stream no packet begins.
-    BadFrame { offset: u64 },
+    BadFrame {
+        offset: u64,
+    },
     /// Out of memory, before it was given a session.
     Memory,
 }

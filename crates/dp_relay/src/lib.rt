@@ -2,5 +2,8 @@
 #![tactic(auto)]
 
 mod ends;
+mod engines;
+mod lanes;
 
 pub use ends::{LaneEnd, RelayEnd};
+pub use engines::serve_engine;

@@ -1,17 +1,15 @@
 -- The turns of a lane's run: whole frames are put, and a piece is read.
-use Rattle.std.specs.Prelude.{◌≡◌, ℕ, ◌≤◌, Bool, true, false, List, [], ◌++◌, Result, Ok, Err, ⊤}
+use Rattle.std.specs.Prelude.{◌≡◌, ℕ, Bool, true, false, List, [], ◌++◌, Result, Ok, Err, ⊤}
 use Rattle.std.specs.declared.option.Option.{Option}
-use Rattle.std.specs.Io.KnownBytes.{Appends, Consumes, IsAtEnd}
+use Rattle.std.specs.Io.KnownBytes.{IsAtEnd}
 use mathlib.Core.List.{IsPrefix}
-use Rattle.dp_outside.specs.Causes.{Rose}
-use Rattle.dp_outside.specs.Reports.{StaysSilent}
 use Rattle.dp_lanes.specs.declared.lane.Lane.{Lane}
 use Rattle.dp_lanes.specs.declared.lane.LaneKind.{LaneKind}
 use Rattle.dp_lanes.specs.Passed.{HasPassed}
-use Rattle.dp_lanes.specs.Places.{IsBadIn}
+use Rattle.dp_lanes.specs.Places.{IsBadIn, received_in}
 use Rattle.dp_relay.specs.declared.ends.LaneEnd.{LaneEnd}
 use Rattle.dp_relay.specs.declared.ends.LaneEnd.TheVariants.{End, ReadFault, WriteFault, BadFrame, Memory}
-use Rattle.dp_relay.specs.Ends.{Ends, Gave, Took, SourceHeld, SinkHeld}
+use Rattle.dp_relay.specs.Ends.{Ends, Gives, Takes, Gave, Took, Failed, SourceHeld, SinkHeld}
 use Rattle.dp_relay.specs.LaneRuns.{whole_frames}
 
 -- ---- frames that are put
@@ -29,27 +27,35 @@ abbrev pub PutFails : Result ⊤ LaneEnd → ℕ → ℕ → Type 0
 PutFails (Ok done) a b = b ≡ a
 PutFails (Err End) a b = b ≡ a
 PutFails (Err ReadFault) a b = b ≡ a
-PutFails (Err WriteFault) a b = (a ≤ b) × Rose a b
+PutFails (Err WriteFault) a b = Failed a b
 PutFails (Err (BadFrame offset)) a b = b ≡ a
 PutFails (Err Memory) a b = b ≡ a
 
-pub record Put (old new : Lane) (before after : Option (List ℕ)) (a b : ℕ) (result : Result ⊤ LaneEnd)
-    : Type 0 where
+-- whole frames were put, from the lane as it was to the lane as it is
+pub record Putting (old new : Lane) (before after : Option (List ℕ)) : Type 0 where
   pub written : List ℕ
-  pub taken : Appends before after written
-  pub untold : StaysSilent before after
+  pub takes : Takes before after written
+  pub passes : (kind : LaneKind) (stream put : List ℕ) → HasPassed kind old stream put
+      → HasPassed kind new stream (put ++ written)
+
+pub record Put (old new : Lane) (before after : Option (List ℕ)) (a b : ℕ)
+    (result : Result ⊤ LaneEnd) : Type 0 where
+  pub written : List ℕ
+  pub takes : Takes before after written
   pub stops : (kind : LaneKind) (stream put : List ℕ) → HasPassed kind old stream put
       → Stops kind new stream (put ++ written) result
   pub fails : PutFails result a b
 
 -- ---- a piece that is read
 
+-- the piece is held behind what was held, or none was read
 abbrev pub Behind : Lane → Lane → List ℕ → Result Bool LaneEnd → Type 0
-Behind old new piece (Ok true) = (kind : LaneKind) (stream put : List ℕ) → HasPassed kind old stream put
-    → HasPassed kind new (stream ++ piece) put
-Behind old new piece (Ok false) = piece ≡ []
+Behind old new piece (Ok true) =
+    ((received_in new).held ≡ (received_in old).held ++ piece)
+    × ((received_in new).dropped ≡ (received_in old).dropped)
+Behind old new piece (Ok false) = (piece ≡ []) × (received_in new ≡ received_in old)
 Behind old new piece (Err End) = ⊥
-Behind old new piece (Err ReadFault) = piece ≡ []
+Behind old new piece (Err ReadFault) = (piece ≡ []) × (received_in new ≡ received_in old)
 Behind old new piece (Err WriteFault) = ⊥
 Behind old new piece (Err (BadFrame offset)) = ⊥
 Behind old new piece (Err Memory) = ⊤
@@ -57,7 +63,7 @@ Behind old new piece (Err Memory) = ⊤
 abbrev pub ReadFails : Result Bool LaneEnd → ℕ → ℕ → Type 0
 ReadFails (Ok more) a b = b ≡ a
 ReadFails (Err End) a b = b ≡ a
-ReadFails (Err ReadFault) a b = (a ≤ b) × Rose a b
+ReadFails (Err ReadFault) a b = Failed a b
 ReadFails (Err WriteFault) a b = b ≡ a
 ReadFails (Err (BadFrame offset)) a b = b ≡ a
 ReadFails (Err Memory) a b = b ≡ a
@@ -70,10 +76,7 @@ AtEnd (Err end) left = ⊤
 pub record Fed (old new : Lane) (ahead rest before after : Option (List ℕ)) (a b : ℕ)
     (result : Result Bool LaneEnd) : Type 0 where
   pub piece : List ℕ
-  pub given : Appends before after piece
-  pub left : Consumes ahead rest piece
-  pub untold_given : StaysSilent before after
-  pub untold_left : StaysSilent ahead rest
+  pub gives : Gives ahead rest before after piece
   pub behind : Behind old new piece result
   pub at_end : AtEnd result rest
   pub fails : ReadFails result a b
