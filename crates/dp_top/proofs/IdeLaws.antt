@@ -1,5 +1,5 @@
 -- What playing a script over a link came to decides the end of `ide`.
-use Rattle.std.proofs.Common.{◌≡◌, ◌⊎◌, inl, inr, ℕ, ◌+◌, ◌<◌, ◌≤◌, List, [], ◌∷◌, ◌++◌, length, Option, None, Some, IsSome, Result, Ok, Err, refl, sym, ap, ◌∙◌, subst, arith}
+use Rattle.std.proofs.Common.{◌≡◌, ◌⊎◌, inl, inr, true, ℕ, ◌+◌, ◌<◌, ◌≤◌, List, [], ◌∷◌, ◌++◌, length, Option, None, Some, IsSome, Result, Ok, Err, refl, sym, ap, ◌∙◌, subst, arith}
 use Rattle.std.specs.Prelude.{MatchResult, IfOk, IfErr}
 use Rattle.dp_outside.specs.Causes.{Rose}
 use Rattle.dp_outside.specs.Changes.{Change, IsUntouched}
@@ -86,9 +86,10 @@ called end instructions given back first read last sent old over new out none no
     }
 
 module _ (port at : ℕ) (door : DoorSeen) (old over new : Net) (at_port : at ≡ port) (dials : over.dials ≡ old.dials)
-    (retired : over.retired ≡ old.retired) (shut : over.shut ≡ old.shut)
+    (retired : over.retired ≡ old.retired)
+    (requested : over.requested ≡ grown old.requested ((port, true) ∷ [])) (shut : over.shut ≡ old.shut)
     (returned : over.returned ≡ old.returned) (later : old.faults ≤ over.faults) (dials_2 : new.dials ≡ over.dials)
-    (retired_2 : new.retired ≡ over.retired)
+    (retired_2 : new.retired ≡ over.retired) (requested_2 : new.requested ≡ over.requested)
     (shut_2 : new.shut ≡ grown over.shut (record { port = at; accepted = door.accepted; retired = door.retired } ∷ []))
     (faults : new.faults ≡ over.faults)
     (counts : CountsReturned (door.faults + door.returned) over.returned new.returned) where
@@ -97,6 +98,7 @@ module _ (port at : ℕ) (door : DoorSeen) (old over new : Net) (at_port : at �
   was_gated given back gave took = record {
     door = record { port = at; accepted = door.accepted; retired = door.retired };
     at = at_port;
+    requested = requested_2 ∙ requested;
     gave = gave;
     took = took;
     shut =

@@ -1,6 +1,7 @@
 pub mod RunReports
 pub mod TalkLaws
 pub mod TaskLaws
+pub mod TopLaws
 pub mod EngineLaws
 pub mod LineLaws
 pub mod IdeLaws

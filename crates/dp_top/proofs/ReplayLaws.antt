@@ -1,5 +1,5 @@
 -- What a replay came to decides the end of `replay`.
-use Rattle.std.proofs.Common.{◌≡◌, ◌⊎◌, inl, inr, ℕ, suc, ◌≤◌, List, [], ◌∷◌, length, take, None, Some, IsSome, Result, Ok, Err, refl, sym, ap, ◌∙◌, subst, arith, append_assoc}
+use Rattle.std.proofs.Common.{◌≡◌, ◌⊎◌, inl, inr, false, ℕ, suc, ◌≤◌, List, [], ◌∷◌, length, take, None, Some, IsSome, Result, Ok, Err, refl, sym, ap, ◌∙◌, subst, arith, append_assoc}
 use Rattle.std.specs.Prelude.{IfOk}
 use Rattle.dp_outside.specs.Causes.{Rose}
 use Rattle.dp_outside.specs.Changes.{Change, IsUntouched}
@@ -23,10 +23,10 @@ use Rattle.dp_top.specs.declared.failures.Failure.TheVariants as failure
 use Rattle.dp_top.specs.declared.failures.Refused.{Refused}
 use Rattle.dp_top.specs.Failures.{status_of}
 use Rattle.dp_top.specs.inner.Completeness.{IsComplete}
-use Rattle.dp_top.specs.Replay.{IsListFile, ReadBefore, ReplayFails}
+use Rattle.dp_top.specs.Replay.{FetchedBefore, IsListFile, ReadBefore, ReplayFails}
 use Rattle.dp_top.specs.Lines.{IsBadAt, Unread, lines_limit}
 use Rattle.dp_top.specs.Runs.{AreFetched as OnlyFetched, IsProgramReported}
-use Rattle.dp_top.specs.inner.BadLines.{AreNone, UnreadSo}
+use Rattle.dp_top.specs.inner.BadLines.{AreNone, UnreadSo, is_bad_line}
 use Rattle.dp_top.specs.inner.EventLists.{EndsOver, EndsReplay, IsWholeList}
 use Rattle.dp_top.proofs.LineLaws.{held_or_lacking, same_content}
 use Rattle.dp_words.specs.Words.{Invocation}
@@ -35,10 +35,47 @@ use Rattle.dp_words.specs.Words.{Invocation}
 
 pub unlisted_fails : (why : Failure) (name events : List ℕ) (ask : Invocation) (files : Files) (before after : ℕ)
     (out : Change)
-    → UnreadSo IsFirstBad why name events files before after → IsUntouched out
+    → UnreadSo IsFirstBad why name events files before after → FetchedBefore why ask files → IsUntouched out
     → ReplayFails why name events ask files before after out
-unlisted_fails why name events ask files before after out (inl memory) idle = inl (memory, inl idle)
-unlisted_fails why name events ask files before after out (inr unlisted) idle = inr (inl (unlisted, idle))
+unlisted_fails why name events ask files before after out (inl memory) fetched idle = inl (memory, inl idle)
+unlisted_fails why name events ask files before after out (inr unlisted) fetched idle =
+    inr (inl (record { unread = unlisted; fetched = fetched }, idle))
+
+-- no line was refused
+pub none_bad : (why : Failure) (ask : Invocation) (files : Files) → is_bad_line why ≡ false
+    → FetchedBefore why ask files
+none_bad (failure.Script line) ask files no = absurd cc
+none_bad failure.TooLong ask files no = tt
+none_bad (failure.Source reason number) ask files no = tt
+none_bad failure.ShelfFailed ask files no = tt
+none_bad failure.NoFile ask files no = tt
+none_bad (failure.Fatal kind line) ask files no = tt
+none_bad (failure.Bound steps) ask files no = tt
+none_bad failure.Output ask files no = tt
+none_bad (failure.Differs line wanted found) ask files no = tt
+none_bad failure.PeerEnd ask files no = tt
+none_bad (failure.Packet offset) ask files no = tt
+none_bad failure.Network ask files no = tt
+none_bad failure.Stopped ask files no = tt
+none_bad failure.Memory ask files no = tt
+
+-- the files were fetched, so they were before whatever is refused
+pub all_before : (why : Failure) (ask : Invocation) (files : Files) (fetched : List Given)
+    → AreFetched files ask.names fetched → FetchedBefore why ask files
+all_before (failure.Script line) ask files fetched are = (fetched, are)
+all_before failure.TooLong ask files fetched are = tt
+all_before (failure.Source reason number) ask files fetched are = tt
+all_before failure.ShelfFailed ask files fetched are = tt
+all_before failure.NoFile ask files fetched are = tt
+all_before (failure.Fatal kind line) ask files fetched are = tt
+all_before (failure.Bound steps) ask files fetched are = tt
+all_before failure.Output ask files fetched are = tt
+all_before (failure.Differs line wanted found) ask files fetched are = tt
+all_before failure.PeerEnd ask files fetched are = tt
+all_before (failure.Packet offset) ask files fetched are = tt
+all_before failure.Network ask files fetched are = tt
+all_before failure.Stopped ask files fetched are = tt
+all_before failure.Memory ask files fetched are = tt
 
 pub held_list : (files : Files) (name content : List ℕ) (events : List Event) → Fetches files name lines_limit content
     → IsWholeList content events → IsListFile files name events
@@ -151,8 +188,8 @@ module _ (files : Files) (before after : ℕ) (events : List ℕ) (ask : Invocat
     read_before : (why : ProgramError) → ReadBefore why files events
     read_before (none.TooLong file) = (list, held)
     read_before (none.Source file why) = (list, held)
-    read_before (none.Shelf file) = tt
-    read_before (none.Missing file) = tt
+    read_before (none.Shelf file) = (held.content, held.fetched)
+    read_before (none.Missing file) = (held.content, held.fetched)
     read_before none.Memory = tt
 
     module _ (fetched : List Given) (are : AreFetched files ask.names fetched) where
@@ -222,10 +259,11 @@ module _ (files : Files) (before after : ℕ) (events : List ℕ) (ask : Invocat
   since first earlier none.Memory h = tt
 
   -- the files were not fetched
-  pub unfetched_fails : (cause : ProgramError) (why : Failure) (name : List ℕ) (first : ℕ) → before ≤ first
+  pub unfetched_fails : (cause : ProgramError) (why : Failure) (name : List ℕ) (first : ℕ) (content : List ℕ)
+      → before ≤ first → Fetches files events lines_limit content
       → ProgramCaused cause files first after ask.names → IsUnread cause
       → IsProgramReported why name ask cause → IsUntouched out → ReplayFails why name events ask files before after out
-  unfetched_fails cause why name first earlier caused unread told idle =
+  unfetched_fails cause why name first content earlier listed caused unread told idle =
       inr (inr (inl (
         record {
           cause = cause;
@@ -238,8 +276,8 @@ module _ (files : Files) (before after : ℕ) (events : List ℕ) (ask : Invocat
       )))
     where
       unread_before : (c : ProgramError) → IsUnread c → ReadBefore c files events
-      unread_before (none.Shelf file) u = tt
-      unread_before (none.Missing file) u = tt
+      unread_before (none.Shelf file) u = (content, listed)
+      unread_before (none.Missing file) u = (content, listed)
       unread_before none.Memory u = tt
       unread_before (none.TooLong file) u = absurd u
       unread_before (none.Source file why) u = absurd u

@@ -81,7 +81,7 @@ module _ (files : Files) (before after : ℕ) (out : Change) (events : List ℕ)
   list_end : (why : Failure) (name : List ℕ) → ReplayFails why name events ask files before after out
       → IsListEnd why before after
   list_end why name (inl memory) = inr (inl (ap status_of memory.0))
-  list_end why name (inr (inl u)) = unlisted why name u.0
+  list_end why name (inr (inl u)) = unlisted why name u.0.unread
   list_end why name (inr (inr (inl u))) = no_files why name u.0
   list_end why name (inr (inr (inr h))) = absurd (never_held h.replayed.events h.replayed.held)
 
@@ -147,7 +147,7 @@ module _ (files : Files) (before after : ℕ) (out : Change) (events : List ℕ)
   no_refusal : (why : Failure) (name : List ℕ) → ReplayFails why name events ask files before after out
       → status_of why ≡ 204 → ⊥
   no_refusal why name (inl memory) e = omega (arith, ap status_of memory.0, e)
-  no_refusal why name (inr (inl u)) e = omega (arith, ap status_of (unlisted_not why name u.0).0, e)
+  no_refusal why name (inr (inl u)) e = omega (arith, ap status_of (unlisted_not why name u.0.unread).0, e)
   no_refusal why name (inr (inr (inl u))) e = no_script why u.0.cause u.0.reported.0 e
   no_refusal why name (inr (inr (inr h))) e = omega (arith, ap status_of h.is_why, e)
 
@@ -156,7 +156,7 @@ module _ (files : Files) (before after : ℕ) (out : Change) (events : List ℕ)
       → (Rose out.faults_before out.faults → ⊥)
       → ReplayFails why name events ask files before after out → status_of why ≡ 209
   memory_alone why name good shelf sink (inl memory) = ap status_of memory.0
-  memory_alone why name good shelf sink (inr (inl u)) = absurd (shelf (unlisted_not why name u.0).1)
+  memory_alone why name good shelf sink (inr (inl u)) = absurd (shelf (unlisted_not why name u.0.unread).1)
   memory_alone why name good shelf sink (inr (inr (inl u))) =
       no_program why files before after ask.names good shelf u.0.cause u.0.caused u.0.reported.0
   memory_alone why name good shelf sink (inr (inr (inr h))) = absurd (sink h.replayed.replays.0)

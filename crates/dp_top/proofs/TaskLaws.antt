@@ -1,5 +1,8 @@
 -- The answers of the call: what the words ask for, why it failed, and what is told of it.
-use Rattle.std.proofs.Common.{◌≡◌, ◌⊎◌, ℕ, ◌<◌, ◌≤◌, List, Option, None, Some, Ok, Err, refl, sym, ap, ◌∙◌, subst, arith, inl, inr, ⊎_elim, codes, [], ◌∷◌, zero, suc, ◌+◌, false, get_or, drop}
+use Rattle.std.proofs.Common.{◌≡◌, ◌⊎◌, ℕ, ◌<◌, ◌≤◌, List, Option, None, Some, Ok, Err, refl, sym, ap, ◌∙◌, subst, arith, inl, inr, ⊎_elim, codes, [], ◌∷◌, zero, suc, ◌+◌, false}
+use Rattle.std.specs.Prelude.{if◌then◌else◌, option_and_then}
+use Rattle.std.specs.Option.{option_map, option_map_or}
+use Rattle.std.specs.Str.{bytes_eq}
 use Rattle.dp_outside.specs.Causes.{Rose}
 use Rattle.dp_outside.specs.Changes.{Change}
 use Rattle.dp_show.specs.declared.errors.ShowError.{ShowError}
@@ -38,138 +41,65 @@ use Rattle.dp_top.specs.Tasks.{failure_of, ShowCaused, Does, Caused, Fails, IsFe
 use Rattle.dp_top.proofs.RunReports.{bad_source, nothing_fetched}
 use Rattle.dp_program.proofs.GrownNames.{grown_by_none}
 
--- the name of a task
-abbrev name_of : Task → List ℕ
-name_of (run ask) = codes "run"
-name_of (talk key ask) = codes "talk"
-name_of (engine address key ask) = codes "engine"
-name_of (ide port script) = codes "ide"
-name_of (replay events ask) = codes "replay"
-name_of show = codes "show"
+-- ---- the task that words ask for
 
-abbrev first_of : List (List ℕ) → List ℕ
-first_of [] = []
-first_of (word ∷ words) = word
+abbrev asked_talk : ℕ → List (List ℕ) → Option Task
+asked_talk bound [] = None
+asked_talk bound (key ∷ names) = Some (talk key (record { bound = bound; names = names }))
 
-abbrev behind_of : List (List ℕ) → List (List ℕ)
-behind_of [] = []
-behind_of (word ∷ words) = words
+abbrev asked_engine : ℕ → List (List ℕ) → Option Task
+asked_engine bound (host ∷ number ∷ key ∷ names) =
+    option_map (λ port. engine (record { host = host; port = port }) key (record { bound = bound; names = names }))
+    (port_of number)
+asked_engine bound names = None
 
-named : (words : List (List ℕ)) (task : Task) → IsInvocation words task → first_of words ≡ name_of task
-named words (run ask) h = ap first_of h.words_are
-named words (talk key ask) h = ap first_of h.words_are
-named words (engine address key ask) h = ap first_of h.words_are
-named words (ide port script) h = ap first_of h.words_are
-named words (replay events ask) h = ap first_of h.words_are
-named words show h = ap first_of h
+abbrev asked_ide : List (List ℕ) → Option Task
+asked_ide (number ∷ script ∷ []) = option_map (λ port. ide port script) (port_of number)
+asked_ide words = None
 
--- no two names have the same second letter
-abbrev letters : List ℕ → ℕ
-letters [] = 0
-letters (a ∷ []) = a
-letters (a ∷ b ∷ more) = b
+abbrev asked_replay : ℕ → List (List ℕ) → Option Task
+asked_replay bound [] = None
+asked_replay bound (events ∷ names) = Some (replay events (record { bound = bound; names = names }))
 
-apart : (words : List (List ℕ)) (task other : Task) → IsInvocation words task → IsInvocation words other
-    → letters (name_of task) ≡ letters (name_of other)
-apart words task other p q = ap letters (sym (named words task p) ∙ named words other q)
+abbrev asked_behind : (ℕ → List (List ℕ) → Option Task) → List (List ℕ) → Option Task
+asked_behind asked behind =
+    option_and_then (λ (ask : Invocation). asked ask.bound ask.names) (invocation_of behind)
 
-abbrev bound_in : Option Invocation → ℕ
-bound_in None = 0
-bound_in (Some ask) = ask.bound
+-- by the name of the command
+abbrev asked_by : List ℕ → List (List ℕ) → Option Task
+asked_by name behind =
+    if bytes_eq name (codes "run") then option_map run (invocation_of behind)
+    else (if bytes_eq name (codes "talk") then asked_behind asked_talk behind
+    else (if bytes_eq name (codes "engine") then asked_behind asked_engine behind
+    else (if bytes_eq name (codes "ide") then asked_ide behind
+    else (if bytes_eq name (codes "replay") then asked_behind asked_replay behind else Some show))))
 
-abbrev names_in : Option Invocation → List (List ℕ)
-names_in None = []
-names_in (Some ask) = ask.names
+abbrev asked : List (List ℕ) → Option Task
+asked [] = None
+asked (name ∷ behind) = asked_by name behind
 
--- the same words ask for the same
-asks_same : (words behind other : List (List ℕ)) (name : List ℕ) (a b : Option Invocation) → words ≡ name ∷ behind
-    → words ≡ name ∷ other → invocation_of behind ≡ a → invocation_of other ≡ b → a ≡ b
-asks_same words behind other name a b p q asked asks =
-    sym asked ∙ ap (λ (l : List (List ℕ)). invocation_of (behind_of l)) (sym p ∙ q) ∙ asks
-
-abbrev number_in : Option ℕ → ℕ
-number_in None = 0
-number_in (Some n) = n
-
-abbrev word_at : ℕ → List (List ℕ) → List ℕ
-word_at n words = get_or words n []
+asked_so : (words : List (List ℕ)) (task : Task) → IsInvocation words task → asked words ≡ Some task
+asked_so words (run ask) h = ap asked h.words_are ∙ ap (option_map run) h.follows.invocation
+asked_so words (talk key ask) h =
+    ap asked h.words_are
+    ∙ ap (option_and_then (λ (a : Invocation). asked_talk a.bound a.names)) h.speaks.invocation
+asked_so words (engine address key ask) h =
+    ap asked h.words_are
+    ∙ ap (option_and_then (λ (a : Invocation). asked_engine a.bound a.names)) h.dials.invocation
+    ∙ ap (option_map (λ port. engine (record { host = address.host; port = port }) key ask)) h.dials.port
+asked_so words (ide port script) h =
+    ap asked h.words_are ∙ ap (option_map (λ p. ide p script)) h.is_port
+asked_so words (replay events ask) h =
+    ap asked h.words_are
+    ∙ ap (option_and_then (λ (a : Invocation). asked_replay a.bound a.names)) h.replays.invocation
+asked_so words show h = ap asked h
 
 -- the words ask for one task
 pub one_task : (words : List (List ℕ)) (task other : Task) → IsInvocation words task → IsInvocation words other
     → task ≡ other
-one_task words (run ask) (run other) p q =
-    let same = asks_same words p.behind q.behind (codes "run") _ _ p.words_are q.words_are p.follows.invocation
-    q.follows.invocation in
-    λ i. run (record { bound = bound_in (same i); names = names_in (same i) })
-one_task words (talk key ask) (talk k other) p q =
-    let same = asks_same words p.behind q.behind (codes "talk") _ _ p.words_are q.words_are p.speaks.invocation
-    q.speaks.invocation in
-    λ i. talk (word_at 0 (names_in (same i))) (record { bound = bound_in (same i); names = drop 1 (names_in (same i)) })
-one_task words (engine address key ask) (engine other k asked) p q =
-    let same = asks_same words p.behind q.behind (codes "engine") _ _ p.words_are q.words_are p.dials.invocation
-    q.dials.invocation in
-    let ports : Some address.port ≡ Some other.port =
-    sym p.dials.port ∙ ap (λ (o : Option Invocation). port_of (word_at 1 (names_in o))) same ∙ q.dials.port in
-    λ i. engine (record { host = word_at 0 (names_in (same i)); port = number_in (ports i) })
-    (word_at 2 (names_in (same i)))
-    (record { bound = bound_in (same i); names = drop 3 (names_in (same i)) })
-one_task words show show p q = refl
-one_task words (ide port script) (ide other s) p q =
-    let same : codes "ide" ∷ p.number ∷ script ∷ [] ≡ codes "ide" ∷ q.number ∷ s ∷ [] = sym p.words_are ∙ q.words_are in
-    let ports : Some port ≡ Some other = sym p.is_port ∙ ap (λ (l : List (List ℕ)). port_of (word_at 1 l)) same ∙
-    q.is_port in
-    λ i. ide (number_in (ports i)) (word_at 2 (same i))
-one_task words (replay events ask) (replay e other) p q =
-    let same = asks_same words p.behind q.behind (codes "replay") _ _ p.words_are q.words_are p.replays.invocation
-    q.replays.invocation in
-    λ i. replay (word_at 0 (names_in (same i))) (record {
-      bound = bound_in (same i);
-      names = drop 1
-          (names_in (same i));
-    })
-one_task words (replay e asked) (run ask) p q = absurd (omega (arith, apart words (replay e asked) (run ask) p q))
-one_task words (run ask) (replay e asked) p q = absurd (omega (arith, apart words (run ask) (replay e asked) p q))
-one_task words (replay e asked) (talk key ask) p q =
-    absurd (omega (arith, apart words (replay e asked) (talk key ask) p q))
-one_task words (talk key ask) (replay e asked) p q =
-    absurd (omega (arith, apart words (talk key ask) (replay e asked) p q))
-one_task words (replay e asked) (engine a key ask) p q =
-    absurd (omega (arith, apart words (replay e asked) (engine a key ask) p q))
-one_task words (engine a key ask) (replay e asked) p q =
-    absurd (omega (arith, apart words (engine a key ask) (replay e asked) p q))
-one_task words (replay e asked) (ide port script) p q =
-    absurd (omega (arith, apart words (replay e asked) (ide port script) p q))
-one_task words (ide port script) (replay e asked) p q =
-    absurd (omega (arith, apart words (ide port script) (replay e asked) p q))
-one_task words (replay e asked) show p q = absurd (omega (arith, apart words (replay e asked) show p q))
-one_task words show (replay e asked) p q = absurd (omega (arith, apart words show (replay e asked) p q))
-one_task words (ide port script) (run ask) p q = absurd (omega (arith, apart words (ide port script) (run ask) p q))
-one_task words (run ask) (ide port script) p q = absurd (omega (arith, apart words (run ask) (ide port script) p q))
-one_task words (ide port script) (talk key ask) p q =
-    absurd (omega (arith, apart words (ide port script) (talk key ask) p q))
-one_task words (talk key ask) (ide port script) p q =
-    absurd (omega (arith, apart words (talk key ask) (ide port script) p q))
-one_task words (ide port script) (engine a key ask) p q =
-    absurd (omega (arith, apart words (ide port script) (engine a key ask) p q))
-one_task words (engine a key ask) (ide port script) p q =
-    absurd (omega (arith, apart words (engine a key ask) (ide port script) p q))
-one_task words (ide port script) show p q = absurd (omega (arith, apart words (ide port script) show p q))
-one_task words show (ide port script) p q = absurd (omega (arith, apart words show (ide port script) p q))
-one_task words (run ask) (talk k other) p q = absurd (omega (arith, apart words (run ask) (talk k other) p q))
-one_task words (run ask) (engine a k other) p q = absurd (omega (arith, apart words (run ask) (engine a k other) p q))
-one_task words (run ask) show p q = absurd (omega (arith, apart words (run ask) show p q))
-one_task words (talk key ask) (run other) p q = absurd (omega (arith, apart words (talk key ask) (run other) p q))
-one_task words (talk key ask) (engine a k other) p q =
-    absurd (omega (arith, apart words (talk key ask) (engine a k other) p q))
-one_task words (talk key ask) show p q = absurd (omega (arith, apart words (talk key ask) show p q))
-one_task words (engine a key ask) (run other) p q =
-    absurd (omega (arith, apart words (engine a key ask) (run other) p q))
-one_task words (engine a key ask) (talk k other) p q =
-    absurd (omega (arith, apart words (engine a key ask) (talk k other) p q))
-one_task words (engine a key ask) show p q = absurd (omega (arith, apart words (engine a key ask) show p q))
-one_task words show (run ask) p q = absurd (omega (arith, apart words show (run ask) p q))
-one_task words show (talk k ask) p q = absurd (omega (arith, apart words show (talk k ask) p q))
-one_task words show (engine a k ask) p q = absurd (omega (arith, apart words show (engine a k ask) p q))
+one_task words task other p q =
+    let same : Some task ≡ Some other = sym (asked_so words task p) ∙ asked_so words other q in
+    ap (λ (o : Option Task). option_map_or (λ t. t) o task) same
 
 -- ---- failures
 

@@ -11,23 +11,24 @@ use Rattle.dp_state.specs.declared.moments.FatalKind.TheVariants as kinds
 use Rattle.dp_top.specs.declared.failures.Failure.{Failure}
 use Rattle.dp_top.specs.declared.failures.Failure.TheVariants.{TooLong, Source, ShelfFailed, NoFile, Fatal, Bound, Output, Script, Differs, PeerEnd, Packet, Network, Stopped, Memory}
 use Rattle.dp_top.specs.Sources.{reason_name, bad_source}
+use Rattle.dp_top.specs.Statuses.{source_status, shelf_status, output_status, script_status, differs_status, peer_end_status, packet_status, network_status, memory_status, stopped_status, unfinished_status}
 
 -- the status that the call answers
 abbrev pub status_of : Failure → ℕ
-status_of TooLong = 201
-status_of (Source reason number) = 201
-status_of ShelfFailed = 202
-status_of NoFile = 202
-status_of (Fatal kind line) = 255
-status_of (Bound steps) = 255
-status_of Output = 203
-status_of (Script line) = 204
-status_of (Differs line wanted found) = 205
-status_of PeerEnd = 206
-status_of (Packet offset) = 207
-status_of Network = 208
-status_of Stopped = 210
-status_of Memory = 209
+status_of TooLong = source_status
+status_of (Source reason number) = source_status
+status_of ShelfFailed = shelf_status
+status_of NoFile = shelf_status
+status_of (Fatal kind line) = unfinished_status
+status_of (Bound steps) = unfinished_status
+status_of Output = output_status
+status_of (Script line) = script_status
+status_of (Differs line wanted found) = differs_status
+status_of PeerEnd = peer_end_status
+status_of (Packet offset) = packet_status
+status_of Network = network_status
+status_of Stopped = stopped_status
+status_of Memory = memory_status
 
 -- the name of a fatal fault
 abbrev pub kind_name : FatalKind → List ℕ

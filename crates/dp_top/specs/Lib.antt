@@ -8,6 +8,8 @@ pub mod Links
 pub mod Runs
 pub mod Seen
 pub mod Sources
+pub mod Statuses
 pub mod Talk
 pub mod Tasks
+pub mod Top
 pub mod inner

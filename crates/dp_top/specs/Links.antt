@@ -1,6 +1,6 @@
 -- A link over the network that a command used, by what the network tells: how it was given, and how
 -- it came back.
-use Rattle.std.specs.Prelude.{◌≡◌, ◌⊎◌, ℕ, ◌+◌, ◌<◌, ◌≤◌, List, [], ◌∷◌, Option, None, Some, ⊤}
+use Rattle.std.specs.Prelude.{◌≡◌, ◌⊎◌, ℕ, ◌+◌, ◌<◌, ◌≤◌, true, false, List, [], ◌∷◌, Option, None, Some, ⊤}
 use Rattle.dp_outside.specs.Causes.{Rose}
 use Rattle.dp_outside.specs.Changes.{Change}
 use Rattle.dp_outside.specs.Links.{CountsReturned, Dial, Door, Link}
@@ -46,13 +46,14 @@ abbrev pub ReportsLinks : Option (List Link) → List Link → Type 0
 ReportsLinks None links = ⊤
 ReportsLinks (Some told) links = told ≡ links
 
--- One gate, at this port, gave these links and took these back. When it was shut it had failed, or
--- links that had failed had come back to it, so often.
+-- One gate was asked for, at this port, and opened; it gave these links and took these back. When
+-- it was shut it had failed, or links that had failed had come back to it, so often.
 pub record IsGated (port : ℕ) (given back : List Link) (failed : ℕ) (old new : Net) : Type 0 where
   pub door : Door
   pub at : door.port ≡ port
   pub gave : ReportsLinks door.accepted given
   pub took : ReportsLinks door.retired back
+  pub requested : new.requested ≡ grown old.requested ((port, true) ∷ [])
   pub shut : new.shut ≡ grown old.shut (door ∷ [])
   pub dials : new.dials ≡ old.dials
   pub retired : new.retired ≡ old.retired
@@ -68,10 +69,11 @@ pub record IsAccepted (port : ℕ) (source sink : Change) (old new : Net) : Type
   pub counted : 0 < source.faults + sink.faults → 0 < failed
   pub gated : IsGated port (given ∷ []) (back ∷ []) failed old new
 
--- No gate could be opened.
-pub record IsUngated (old new : Net) : Type 0 where
+-- One gate was asked for, at this port, and could not be opened.
+pub record IsUngated (port : ℕ) (old new : Net) : Type 0 where
   pub dials : new.dials ≡ old.dials
   pub retired : new.retired ≡ old.retired
+  pub requested : new.requested ≡ grown old.requested ((port, false) ∷ [])
   pub shut : new.shut ≡ old.shut
   pub faults : Rose old.faults new.faults
   pub returned : new.returned ≡ old.returned
@@ -84,4 +86,4 @@ pub record IsShutUnused (port : ℕ) (old new : Net) : Type 0 where
 
 -- no link came
 abbrev pub IsUncalled : ℕ → Net → Net → Type 0
-IsUncalled port old new = IsUngated old new ⊎ IsShutUnused port old new
+IsUncalled port old new = IsUngated port old new ⊎ IsShutUnused port old new

@@ -2,12 +2,13 @@
 use Rattle.std.specs.Prelude.{◌≡◌, ◌⊎◌, ℕ, ◌≤◌, List, [], length, Result, Ok, Err}
 use Rattle.dp_outside.specs.Changes.{Change, IsUntouched}
 use Rattle.dp_outside.specs.Files.{Fetches}
+use Rattle.dp_bundle.specs.Bundles.{Given}
 use Rattle.dp_tree.specs.declared.bundle.Bundle.{Bundle}
 use Rattle.dp_events.specs.declared.event.Event.{Event}
 use Rattle.dp_events.specs.Lists.{IsFirstBad, IsList}
 use Rattle.dp_program.specs.declared.errors.ProgramError.{ProgramError}
 use Rattle.dp_program.specs.declared.errors.ProgramError.TheVariants as none
-use Rattle.dp_program.specs.Programs.{Files, NamesMake, ProgramCaused}
+use Rattle.dp_program.specs.Programs.{AreFetched, Files, NamesMake, ProgramCaused}
 use Rattle.dp_world.specs.declared.errors.ReplayError.{ReplayError}
 use Rattle.dp_world.specs.declared.errors.ReplayError.TheVariants as ends
 use Rattle.dp_top.specs.Engines.{engines_of}
@@ -48,12 +49,16 @@ DoesReplay status events ask files out =
 
 -- ---- why it fails
 
--- the list is read before a file of the program is refused
+-- the list is fetched before the files of the program are, and read before one of them is refused
 abbrev pub ReadBefore : ProgramError → Files → List ℕ → Type 0
+ReadBefore (none.Shelf file) files name =
+    (content : List ℕ) × Fetches files name lines_limit content
+ReadBefore (none.Missing file) files name =
+    (content : List ℕ) × Fetches files name lines_limit content
 ReadBefore (none.TooLong file) files name = (events : List Event) × IsListFile files name events
 ReadBefore (none.Source file why) files name =
     (events : List Event) × IsListFile files name events
-ReadBefore why files name = Unit {0}
+ReadBefore none.Memory files name = Unit {0}
 
 -- there is no program
 pub record IsUnreplayed (why : Failure) (name events : List ℕ) (ask : Invocation) (files : Files)
@@ -62,6 +67,18 @@ pub record IsUnreplayed (why : Failure) (name events : List ℕ) (ask : Invocati
   pub caused : ProgramCaused cause files before after ask.names
   pub read : ReadBefore cause files events
   pub reported : IsProgramReported why name ask cause
+
+-- the files of the program are fetched before a line of the list is refused
+abbrev pub FetchedBefore : Failure → Invocation → Files → Type 0
+FetchedBefore (failure.Script line) ask files =
+    (fetched : List Given) × AreFetched files ask.names fetched
+FetchedBefore why ask files = Unit {0}
+
+-- there is no list
+pub record IsUnlisted (why : Failure) (name events : List ℕ) (ask : Invocation) (files : Files)
+    (before after : ℕ) : Type 0 where
+  pub unread : Unread IsFirstBad why name events files before after
+  pub fetched : FetchedBefore why ask files
 
 -- the output failed
 pub record IsCutShort (why : Failure) (name events : List ℕ) (ask : Invocation) (files : Files)
@@ -80,6 +97,6 @@ IsStarved events ask files out =
 abbrev pub ReplayFails : Failure → List ℕ → List ℕ → Invocation → Files → ℕ → ℕ → Change → Type 0
 ReplayFails why name events ask files before after out =
     ((why ≡ failure.Memory) × IsStarved events ask files out)
-    ⊎ (Unread IsFirstBad why name events files before after × IsUntouched out)
+    ⊎ (IsUnlisted why name events ask files before after × IsUntouched out)
     ⊎ (IsUnreplayed why name events ask files before after × IsUntouched out)
     ⊎ IsCutShort why name events ask files out

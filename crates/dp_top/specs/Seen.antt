@@ -1,5 +1,5 @@
 -- What the objects of the outside that `top` is lent tell, and how often each has failed.
-use Rattle.std.specs.Prelude.{ℕ, List, Option}
+use Rattle.std.specs.Prelude.{ℕ, Bool, List, Option}
 use Rattle.dp_outside.specs.Causes.{Rose}
 use Rattle.dp_outside.specs.Changes.{Change}
 use Rattle.dp_outside.specs.Links.{Dial, Door, Link}
@@ -19,11 +19,13 @@ pub record Shelf : Type 0 where
   pub fetched : RequestedNames
   pub faults : ℕ
 
--- the network: its dials, the links that came back, and the gates that were shut, where it tells
--- them; how often it has failed, and how often something came back that had
+-- the network: its dials, the links that came back, the gates that it was asked for (the port of
+-- each, and whether it was opened) and those that were shut, where it tells them; how often it has
+-- failed, and how often something came back that had
 pub record Net : Type 0 where
   pub dials : Option (List Dial)
   pub retired : Option (List Link)
+  pub requested : Option (List (ℕ × Bool))
   pub shut : Option (List Door)
   pub faults : ℕ
   pub returned : ℕ
@@ -35,11 +37,12 @@ pub record Seen : Type 0 where
   pub err : Stream
   pub net : Net
 
-abbrev pub net_seen : {N In Out : Type 0} → dialer_of.Ghosts N In Out → (N → Option (List Door))
-    → N → Net
-net_seen d shut net = record {
+abbrev pub net_seen : {N In Out : Type 0} → dialer_of.Ghosts N In Out
+    → (N → Option (List (ℕ × Bool))) → (N → Option (List Door)) → N → Net
+net_seen d requested shut net = record {
   dials = d.dials net;
   retired = d.retired net;
+  requested = requested net;
   shut = shut net;
   faults = d.faults net;
   returned = d.returned net;
@@ -47,13 +50,14 @@ net_seen d shut net = record {
 
 abbrev pub seen : {H S K E N In Out : Type 0}
     → shelf_of.Ghosts H → source_of.Ghosts S → sink_of.Ghosts K → sink_of.Ghosts E
-    → dialer_of.Ghosts N In Out → (N → Option (List Door)) → H → S → K → E → N → Seen
-seen h s k e d shut shelf input out err net = record {
+    → dialer_of.Ghosts N In Out → (N → Option (List (ℕ × Bool))) → (N → Option (List Door))
+    → H → S → K → E → N → Seen
+seen h s k e d requested shut shelf input out err net = record {
   shelf = record { files = h.files shelf; fetched = h.fetched shelf; faults = h.faults shelf };
   input = record { told = s.left input; faults = s.faults input };
   out = record { told = k.taken out; faults = k.faults out };
   err = record { told = e.taken err; faults = e.faults err };
-  net = net_seen d shut net;
+  net = net_seen d requested shut net;
 }
 
 -- what became of a source or a sink

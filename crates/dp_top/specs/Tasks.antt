@@ -15,6 +15,7 @@ use Rattle.dp_program.specs.Runs.{Runs}
 use Rattle.dp_program.specs.Programs.{RequestedNames}
 use Rattle.dp_top.specs.Runs.{AreFetched, IsFetched, RunFails}
 use Rattle.dp_top.specs.Seen.{Seen, Stream, changed}
+use Rattle.dp_top.specs.Statuses.{memory_status}
 use Rattle.dp_top.specs.Talk.{Talks, TalkFails}
 
 -- ---- `show`
@@ -126,7 +127,7 @@ pub record IsDone (status : ℕ) (words : List (List ℕ)) (old new : Seen) : Ty
 
 -- Memory ran out as the words were read: that is said, and nothing else was done.
 pub record IsUnread (status : ℕ) (old new : Seen) : Type 0 where
-  pub is_status : status ≡ 209
+  pub is_status : status ≡ memory_status
   pub shelf : new.shelf ≡ old.shelf
   pub input : IsStill old.input new.input
   pub out : IsStill old.out new.out

@@ -4,10 +4,12 @@ ghost use Rattle.dp_outside.specs.Changes.{change};
 ghost use Rattle.dp_show.specs.Shows.{Shows};
 ghost use Rattle.dp_words.specs.Words.{Invocation, Task, IsInvocation, invocation_in};
 ghost use Rattle.dp_words.specs.Commands.{task_of};
+ghost use Rattle.dp_top.specs.inner.Carried.{IsCarriedOut};
 ghost use Rattle.dp_top.specs.inner.Completeness.{AreComplete, AreCompleteWith};
-ghost use Rattle.dp_top.specs.inner.Kept.{Continues, GoesOn};
+ghost use Rattle.dp_top.specs.inner.Kept.{GoesOn};
 ghost use Rattle.dp_top.specs.Seen.{seen};
 ghost use Rattle.dp_top.specs.Tasks.{failure_of, Does, Caused, IsFetchedFor, ShowCaused};
+ghost use Rattle.dp_top.specs.Statuses.{exit_limit};
 
 use crate::engine::engine;
 use crate::failures::{Failure, Refused};
@@ -46,7 +48,7 @@ fn show_all<'a, S: Source, K: Sink>(
         × Shows (Ok tt) (change S.left S.faults input.old input.new) (change K.taken K.faults out.old out.new))
         (λ why. (why.name.now ≡ []) × ShowCaused why.failure (change S.left S.faults input.old input.new)
         (change K.taken K.faults out.old out.new)) }
-    ensures status { IfOk result (λ status. status ≤ 199) }
+    ensures status { IfOk result (λ status. status ≤ exit_limit) }
     ensures input_later { S.faults input.old ≤ S.faults input.new }
     ensures out_later { K.faults out.old ≤ K.faults out.new }
 {
@@ -69,7 +71,7 @@ pub(crate) fn carry_out<'a, R: Wait + Sync, H: Shelf, S: Source, K: Sink, E: Sin
         (λ status. Does status (task_of command.entry) objects.old.seen objects.new.seen)
         (λ why. Caused why.failure why.name.now (task_of command.entry)
         objects.old.seen objects.new.seen) }
-    ensures status { IfOk result (λ status. status ≤ 199) }
+    ensures status { IfOk result (λ status. status ≤ exit_limit) }
     // Files that make a program are no bad source, and those that make none are one, unless the shelf failed.
     ensures held { (ask : Invocation) → invocation_in (task_of command.entry) ≡ Some ask
         → AreComplete ask result objects.old.seen objects.new.seen }
@@ -105,29 +107,11 @@ pub(crate) fn carry_out_on<'a, R: Wait + Sync, H: Shelf, S: Source, K: Sink, E: 
 ) -> Result<u8, Refused<'a>>
     requires invocation { (words : List (List ℕ)) × IsInvocation words (task_of command) }
 
-    ensures ends { MatchResult result
-        (λ status. Does status (task_of command.entry) (seen H.Shelf S.Source K.Sink E.Sink N.Dialer N.shut_doors
-        shelf.old input.old out.old err.old net.old)
-        (seen H.Shelf S.Source K.Sink E.Sink N.Dialer N.shut_doors shelf.new input.new out.new err.new net.new))
-        (λ why. Caused why.failure why.name.now (task_of command.entry)
-        (seen H.Shelf S.Source K.Sink E.Sink N.Dialer N.shut_doors shelf.old input.old out.old err.old net.old)
-        (seen H.Shelf S.Source K.Sink E.Sink N.Dialer N.shut_doors shelf.new input.new out.new err.new net.new)) }
-    ensures status { IfOk result (λ status. status ≤ 199) }
-    // Files that make a program are no bad source, and those that make none are one, unless the shelf failed.
-    ensures held { (ask : Invocation) → invocation_in (task_of command.entry) ≡ Some ask
-        → AreComplete ask result (seen H.Shelf S.Source K.Sink E.Sink N.Dialer N.shut_doors shelf.old input.old out.old
-        err.old net.old)
-        (seen H.Shelf S.Source K.Sink E.Sink N.Dialer N.shut_doors shelf.new input.new out.new err.new net.new) }
-    // Likewise of a list of events, where it is one.
-    ensures replay_held { (events : List ℕ) (ask : Invocation) → task_of command.entry ≡ Task.replay events ask
-        → AreCompleteWith events ask result (seen H.Shelf S.Source K.Sink E.Sink N.Dialer N.shut_doors shelf.old
-        input.old out.old err.old net.old)
-        (seen H.Shelf S.Source K.Sink E.Sink N.Dialer N.shut_doors shelf.new input.new out.new err.new net.new) }
-    ensures show_shelf { task_of command.entry ≡ Task.show → H.faults shelf.new ≡ H.faults shelf.old }
-    ensures fetched { IsFetchedFor (task_of command.entry) (H.fetched shelf.old) (H.fetched shelf.new) }
-    ensures goes_on { Continues (seen H.Shelf S.Source K.Sink E.Sink N.Dialer N.shut_doors shelf.old input.old out.old
-        err.old net.old)
-        (seen H.Shelf S.Source K.Sink E.Sink N.Dialer N.shut_doors shelf.new input.new out.new err.new net.new) }
+    ensures carried { let before = seen H.Shelf S.Source K.Sink E.Sink N.Dialer N.asked_gates N.shut_doors
+        shelf.old input.old out.old err.old net.old in
+        let after = seen H.Shelf S.Source K.Sink E.Sink N.Dialer N.asked_gates N.shut_doors
+        shelf.new input.new out.new err.new net.new in
+        IsCarriedOut result (task_of command.entry) before after }
 {
     let mut objects = Objects {
         shelf,

@@ -10,6 +10,7 @@ ghost use Rattle.dp_top.specs.Seen.{net_seen};
 ghost use Rattle.dp_top.specs.inner.Dialled.{EngagedSo, UnengagedSo};
 ghost use Rattle.dp_top.specs.inner.Completeness.{AreComplete, IsComplete};
 ghost use Rattle.dp_top.specs.inner.Kept.{GoesOn};
+ghost use Rattle.dp_top.specs.Statuses.{exit_limit};
 
 use crate::failures::{Failure, Refused};
 use crate::objects::Objects;
@@ -38,13 +39,13 @@ fn serve_linked<'a, N: Net, K: Sink>(
     ensures ends { MatchResult result
         (λ status. EngagedSo status bundle.now (address_seen request.entry.address) request.entry.talk.key.now
         (invocation_seen request.entry.talk.program)
-        (change K.taken K.faults out.old out.new) (net_seen N.Dialer N.shut_doors net.old)
-        (net_seen N.Dialer N.shut_doors net.new))
+        (change K.taken K.faults out.old out.new) (net_seen N.Dialer N.asked_gates N.shut_doors net.old)
+        (net_seen N.Dialer N.asked_gates N.shut_doors net.new))
         (λ why. UnengagedSo why.failure why.name.now bundle.now
         (address_seen request.entry.address) request.entry.talk.key.now (invocation_seen request.entry.talk.program)
-        (change K.taken K.faults out.old out.new) (net_seen N.Dialer N.shut_doors net.old)
-        (net_seen N.Dialer N.shut_doors net.new)) }
-    ensures status { IfOk result (λ status. status ≤ 199) }
+        (change K.taken K.faults out.old out.new) (net_seen N.Dialer N.asked_gates N.shut_doors net.old)
+        (net_seen N.Dialer N.asked_gates N.shut_doors net.new)) }
+    ensures status { IfOk result (λ status. status ≤ exit_limit) }
     ensures held { (made : Made) (before after : ℕ) → IsComplete (Ok made) result before after }
     ensures out_later { K.faults out.old ≤ K.faults out.new }
     ensures net_later { N.faults net.old ≤ N.faults net.new }
@@ -85,13 +86,13 @@ fn serve_over<'a, N: Net, K: Sink>(
     ensures ends { MatchResult result
         (λ status. EngagedSo status bundle.now (address_seen request.entry.address) request.entry.talk.key.now
         (invocation_seen request.entry.talk.program)
-        (change K.taken K.faults out.old out.new) (net_seen N.Dialer N.shut_doors net.old)
-        (net_seen N.Dialer N.shut_doors net.new))
+        (change K.taken K.faults out.old out.new) (net_seen N.Dialer N.asked_gates N.shut_doors net.old)
+        (net_seen N.Dialer N.asked_gates N.shut_doors net.new))
         (λ why. UnengagedSo why.failure why.name.now bundle.now
         (address_seen request.entry.address) request.entry.talk.key.now (invocation_seen request.entry.talk.program)
-        (change K.taken K.faults out.old out.new) (net_seen N.Dialer N.shut_doors net.old)
-        (net_seen N.Dialer N.shut_doors net.new)) }
-    ensures status { IfOk result (λ status. status ≤ 199) }
+        (change K.taken K.faults out.old out.new) (net_seen N.Dialer N.asked_gates N.shut_doors net.old)
+        (net_seen N.Dialer N.asked_gates N.shut_doors net.new)) }
+    ensures status { IfOk result (λ status. status ≤ exit_limit) }
     ensures held { (made : Made) (before after : ℕ) → IsComplete (Ok made) result before after }
     ensures out_later { K.faults out.old ≤ K.faults out.new }
     ensures net_later { N.faults net.old ≤ N.faults net.new }
@@ -118,7 +119,7 @@ pub(crate) fn engine<'a, H: Shelf, S: Source, K: Sink, E: Sink, N: Net>(
         objects.old.seen objects.new.seen)
         (λ why. EngineFails why.failure why.name.now (address_seen request.entry.address) request.entry.talk.key.now
         (invocation_seen request.entry.talk.program) objects.old.seen objects.new.seen) }
-    ensures status { IfOk result (λ status. status ≤ 199) }
+    ensures status { IfOk result (λ status. status ≤ exit_limit) }
     // Files that make a program are no bad source, and those that make none are one, unless the shelf failed.
     ensures held { AreComplete (invocation_seen request.entry.talk.program) result objects.old.seen objects.new.seen }
     ensures fetched { IsFetched (Some (invocation_seen request.entry.talk.program)) objects.old.seen.shelf.fetched

@@ -3,7 +3,9 @@ ghost use Rattle.std.specs.Prelude.{◌≡◌, ◌⊎◌, ◌≤◌, ◌++◌, I
 ghost use Rattle.dp_outside.specs.Changes.{change};
 ghost use Rattle.dp_top.specs.Sources.{failure_of, reason_name, bad_source};
 ghost use Rattle.dp_top.specs.Failures.{status_of, line_of, kind_name, fatal_line, found_text, script_line, Says};
+ghost use Rattle.dp_top.specs.Statuses.{memory_status};
 
+use crate::statuses;
 use dp_lexer::LexError;
 use dp_outside::Sink;
 use dp_parse::ParseError;
@@ -170,27 +172,27 @@ impl Failure {
         ensures { result ≡ status_of self.now }
     {
         match self {
-            Failure::TooLong => 201,
+            Failure::TooLong => statuses::SOURCE,
             Failure::Source {
                 reason: _,
                 number: _,
-            } => 201,
-            Failure::ShelfFailed => 202,
-            Failure::NoFile => 202,
-            Failure::Fatal { kind: _, line: _ } => 255,
-            Failure::Bound { steps: _ } => 255,
-            Failure::Output => 203,
-            Failure::Script { line: _ } => 204,
+            } => statuses::SOURCE,
+            Failure::ShelfFailed => statuses::SHELF,
+            Failure::NoFile => statuses::SHELF,
+            Failure::Fatal { kind: _, line: _ } => statuses::UNFINISHED,
+            Failure::Bound { steps: _ } => statuses::UNFINISHED,
+            Failure::Output => statuses::OUTPUT,
+            Failure::Script { line: _ } => statuses::SCRIPT,
             Failure::Differs {
                 line: _,
                 wanted: _,
                 found: _,
-            } => 205,
-            Failure::PeerEnd => 206,
-            Failure::Packet { offset: _ } => 207,
-            Failure::Network => 208,
-            Failure::Stopped => 210,
-            Failure::Memory => 209,
+            } => statuses::DIFFERS,
+            Failure::PeerEnd => statuses::PEER_END,
+            Failure::Packet { offset: _ } => statuses::PACKET,
+            Failure::Network => statuses::NETWORK,
+            Failure::Stopped => statuses::STOPPED,
+            Failure::Memory => statuses::MEMORY,
         }
     }
 
@@ -349,7 +351,7 @@ pub(crate) fn say<E: Sink>(err: &mut E, line: &[u8])
 pub(crate) fn report<E: Sink>(alloc: Global, failure: &Failure, file: &[u8], err: &mut E) -> u8
     ensures reported { ((result ≡ status_of failure.now)
         × Says (change E.taken E.faults err.old err.new) (line_of failure.now file.now))
-        ⊎ ((result ≡ 209) × Says (change E.taken E.faults err.old err.new) (codes "out of memory\n")) }
+        ⊎ ((result ≡ memory_status) × Says (change E.taken E.faults err.old err.new) (codes "out of memory\n")) }
     ensures later { E.faults err.old ≤ E.faults err.new }
 {
     match failure.line(alloc, file) {
@@ -359,7 +361,7 @@ pub(crate) fn report<E: Sink>(alloc: Global, failure: &Failure, file: &[u8], err
         }
         Err(_) => {
             say(err, b"out of memory\n");
-            209
+            statuses::MEMORY
         }
     }
 }

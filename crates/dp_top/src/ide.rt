@@ -8,6 +8,7 @@ ghost use Rattle.dp_top.specs.Seen.{net_seen};
 ghost use Rattle.dp_top.specs.inner.BadLines.{AreNone, UnreadSo};
 ghost use Rattle.dp_top.specs.inner.Gated.{GatedSo, IsReportedBy, IsWholeScript, MetSo};
 ghost use Rattle.dp_top.specs.inner.Kept.{GoesOn};
+ghost use Rattle.dp_top.specs.Statuses.{exit_limit};
 
 use crate::failures::{Failure, Refused};
 use crate::lines::{LINES_LIMIT, unfetched};
@@ -117,7 +118,7 @@ fn play_at<R: Wait + Sync, N: Net, O: Sink>(
     out: &mut O,
 ) -> Option<Result<(), IdeError>>
     ensures gated { GatedSo result port script.now (change O.taken O.faults out.old out.new)
-        (net_seen N.Dialer N.shut_doors net.old) (net_seen N.Dialer N.shut_doors net.new) }
+        (net_seen N.Dialer N.asked_gates N.shut_doors net.old) (net_seen N.Dialer N.asked_gates N.shut_doors net.new) }
     ensures out_later { O.faults out.old ≤ O.faults out.new }
     ensures net_later { N.faults net.old ≤ N.faults net.new }
     ensures returned_later { N.returned net.old ≤ N.returned net.new }
@@ -155,7 +156,7 @@ pub(crate) fn ide<'a, R: Wait + Sync, H: Shelf, S: Source, K: Sink, E: Sink, N: 
         (λ status. Plays status request.entry.port request.entry.script.now objects.old.seen objects.new.seen)
         (λ why. IdeFails why.failure why.name.now request.entry.port request.entry.script.now objects.old.seen
         objects.new.seen) }
-    ensures status { IfOk result (λ status. status ≤ 199) }
+    ensures status { IfOk result (λ status. status ≤ exit_limit) }
     ensures fetched { objects.new.seen.shelf.fetched ≡ grown objects.old.seen.shelf.fetched
         (request.entry.script.now ∷ []) }
     ensures goes_on { GoesOn objects.old objects.new }

@@ -1,5 +1,6 @@
 //! What scripts and lists of events have alike.
-ghost use Rattle.std.specs.Prelude.{◌≡◌};
+ghost use Rattle.std.specs.Prelude.{◌≡◌, false};
+ghost use Rattle.dp_top.specs.inner.BadLines.{is_bad_line};
 
 use crate::failures::{Failure, Refused};
 use dp_outside::ShelfError;
@@ -12,6 +13,7 @@ pub(crate) fn unfetched<'a>(name: &'a str, why: ShelfError) -> Refused<'a>
     ensures failed { why ≡ ShelfError.Failed → (result.failure ≡ Failure.ShelfFailed) × (result.name.now ≡ name.now) }
     ensures missing { why ≡ ShelfError.Missing → (result.failure ≡ Failure.NoFile) × (result.name.now ≡ name.now) }
     ensures memory { why ≡ ShelfError.Memory → result.failure ≡ Failure.Memory }
+    ensures unread { is_bad_line result.failure ≡ false }
 {
     match why {
         ShelfError::Failed => Refused {

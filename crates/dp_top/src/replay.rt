@@ -1,5 +1,5 @@
 //! The command `replay`: the transcript of a list of events, with engines in memory.
-ghost use Rattle.std.specs.Prelude.{◌≡◌, ◌∷◌, ◌<◌, ◌≤◌, [], List, Result, map, IfOk, IfErr};
+ghost use Rattle.std.specs.Prelude.{◌≡◌, ◌∷◌, ◌<◌, ◌≤◌, [], false, List, Result, map, IfOk, IfErr};
 ghost use Rattle.dp_outside.specs.Changes.{change};
 ghost use Rattle.dp_outside.specs.Files.{Fetches};
 ghost use Rattle.dp_outside.specs.Reports.{grown};
@@ -15,9 +15,10 @@ ghost use Rattle.dp_words.specs.Commands.{invocation_seen};
 ghost use Rattle.dp_top.specs.Lines.{lines_limit};
 ghost use Rattle.dp_top.specs.Replay.{IsListFile};
 ghost use Rattle.dp_top.specs.Runs.{AreFetched};
-ghost use Rattle.dp_top.specs.inner.BadLines.{AreNone, UnreadSo};
+ghost use Rattle.dp_top.specs.inner.BadLines.{AreNone, UnreadSo, is_bad_line};
 ghost use Rattle.dp_top.specs.inner.Completeness.{IsComplete};
 ghost use Rattle.dp_top.specs.inner.EventLists.{CompleteFetched, EndsFetched, EndsOver, EndsReplay, IsWholeList};
+ghost use Rattle.dp_top.specs.Statuses.{exit_limit};
 
 use crate::engines;
 use crate::failures::{Failure, Refused};
@@ -44,6 +45,7 @@ fn fetch_list<'a, H: Shelf>(
     ensures held { IfOk result (Fetches (H.files shelf.old) events.now lines_limit) }
     ensures unlisted { IfErr result (λ why. UnreadSo IsFirstBad why.failure why.name.now events.now (H.files shelf.old)
         (H.faults shelf.old) (H.faults shelf.new)) }
+    ensures unread { IfErr result (λ why. is_bad_line why.failure ≡ false) }
     ensures fetched { H.fetched shelf.new ≡ grown (H.fetched shelf.old) (events.now ∷ []) }
     ensures files { H.files shelf.new ≡ H.files shelf.old }
     ensures later { H.faults shelf.old ≤ H.faults shelf.new }
@@ -139,7 +141,7 @@ pub(crate) fn replay<'a, H: Shelf, K: Sink>(
     ensures ends { EndsReplay result request.entry.events.now (invocation_seen request.entry.program)
         (H.files shelf.old)
         (H.faults shelf.old) (H.faults shelf.new) (change K.taken K.faults out.old out.new) }
-    ensures status { IfOk result (λ status. status ≤ 199) }
+    ensures status { IfOk result (λ status. status ≤ exit_limit) }
     // Files that make a program are no bad source, and those that make none are one, unless the shelf failed.
     ensures held { (asked : Result Made Unmade)
         → FilesMake (H.files shelf.old) (invocation_seen request.entry.program).names asked

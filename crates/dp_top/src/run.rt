@@ -11,6 +11,7 @@ ghost use Rattle.dp_top.specs.Runs.{IsFetched, IsProgramReported, IsRunReported,
 ghost use Rattle.dp_top.specs.Runs.{reported_name};
 ghost use Rattle.dp_top.specs.Runs.{program_failure, program_name, RunFails};
 ghost use Rattle.dp_top.specs.inner.Completeness.{IsComplete};
+ghost use Rattle.dp_top.specs.Statuses.{exit_limit};
 
 use crate::failures::{Failure, Refused, refusal};
 use dp_outside::{Shelf, Sink};
@@ -124,7 +125,7 @@ pub(crate) fn run<'a, H: Shelf, K: Sink>(
         (change K.taken K.faults out.old out.new))
         (λ why. RunFails why.failure why.name.now (H.files shelf.old) (H.faults shelf.old) (H.faults shelf.new)
         (invocation_seen program.entry) (change K.taken K.faults out.old out.new)) }
-    ensures status { IfOk result (λ status. status ≤ 199) }
+    ensures status { IfOk result (λ status. status ≤ exit_limit) }
     ensures held { (asked : Result Bundle Unmade)
         → FilesMake (H.files shelf.old) (invocation_seen program.entry).names asked
         → IsComplete asked result (H.faults shelf.old) (H.faults shelf.new) }

@@ -7,6 +7,7 @@ ghost use Rattle.dp_words.specs.Commands.{invocation_seen};
 ghost use Rattle.dp_top.specs.inner.Completeness.{IsComplete, IsGood};
 ghost use Rattle.dp_top.specs.Talk.{ended, judged_by};
 ghost use Rattle.dp_top.specs.inner.Sessions.{ServedSo, UnservedSo, reported_in};
+ghost use Rattle.dp_top.specs.Statuses.{exit_limit};
 
 use crate::failures::{Failure, Refused};
 use crate::run::refusal_of_run;
@@ -81,7 +82,7 @@ pub(crate) fn serve_program<'a, S: Source, K: Sink, E: Sink, L: Ledger>(
         (invocation_seen request.entry.program)
         (change S.left S.faults input.old input.new) (change K.taken K.faults out.old out.new)
         (change E.taken E.faults err.old err.new)) }
-    ensures status { IfOk result (λ status. status ≤ 199) }
+    ensures status { IfOk result (λ status. status ≤ exit_limit) }
     ensures held { (made : Made) (before after : ℕ) → IsComplete (Ok made) result before after }
     ensures input_later { S.faults input.old ≤ S.faults input.new }
     ensures out_later { K.faults out.old ≤ K.faults out.new }

@@ -6,6 +6,7 @@ ghost use Rattle.dp_top.specs.Runs.{IsFetched};
 ghost use Rattle.dp_top.specs.inner.Completeness.{AreComplete};
 ghost use Rattle.dp_top.specs.inner.Kept.{GoesOn};
 ghost use Rattle.dp_top.specs.Talk.{Talks, TalkFails};
+ghost use Rattle.dp_top.specs.Statuses.{exit_limit};
 
 use crate::failures::{Failure, Refused};
 use crate::objects::Objects;
@@ -30,7 +31,7 @@ pub(crate) fn talk<'a, H: Shelf, S: Source, K: Sink, E: Sink, N: Net>(
         objects.old.seen objects.new.seen)
         (λ why. TalkFails why.failure why.name.now request.entry.key.now (invocation_seen request.entry.program)
         objects.old.seen objects.new.seen) }
-    ensures status { IfOk result (λ status. status ≤ 199) }
+    ensures status { IfOk result (λ status. status ≤ exit_limit) }
     // Files that make a program are no bad source, and those that make none are one, unless the shelf failed.
     ensures held { AreComplete (invocation_seen request.entry.program) result objects.old.seen objects.new.seen }
     ensures fetched { IsFetched (Some (invocation_seen request.entry.program)) objects.old.seen.shelf.fetched

@@ -1,25 +1,11 @@
 //! The top call.
-ghost use Rattle.std.specs.Prelude.{false, ◌≡◌, ◌⊎◌, ◌<◌, ◌≤◌, ℕ, List, IsSome, Some, Result, Ok, Err, codes};
-ghost use Rattle.std.specs.Prelude.{map, string_bytes};
-ghost use Rattle.dp_outside.specs.Causes.{Rose};
-ghost use Rattle.dp_outside.specs.Changes.{change, IsUntouched};
-ghost use Rattle.dp_tree.specs.declared.bundle.Bundle.{Bundle};
-ghost use Rattle.dp_bundle.specs.declared.errors.BundleError.{BundleError};
-ghost use Rattle.dp_words.specs.Words.{Address, Invocation, IsEngine, IsIde, IsReplay, IsRun, IsTalk, Task};
-ghost use Rattle.dp_words.specs.Words.{IsInvocation};
-ghost use Rattle.dp_words.specs.Words.{invocation_in, uses_net};
-ghost use Rattle.dp_words.specs.Plain.{are_plain};
-ghost use Rattle.dp_top.specs.Failures.{Says};
-ghost use Rattle.dp_program.specs.Programs.{FilesMake};
-ghost use Rattle.dp_ide.specs.declared.instruction.Instruction.{Instruction};
-ghost use Rattle.dp_events.specs.declared.event.Event.{Event};
-ghost use Rattle.dp_top.specs.Ide.{IsNoScript, IsScriptFile};
-ghost use Rattle.dp_top.specs.Replay.{IsListFile, IsNoList};
-ghost use Rattle.dp_top.specs.Seen.{NoneRose, net_seen, seen};
-ghost use Rattle.dp_top.specs.Tasks.{IsDone, Fails, IsFetchedFor, IsUnread};
+ghost use Rattle.std.specs.Prelude.{◌≡◌, map, string_bytes};
+ghost use Rattle.dp_top.specs.Seen.{seen};
+ghost use Rattle.dp_top.specs.Top.{Answers};
 
 use crate::commands::carry_out_on;
 use crate::failures::{report, say};
+use crate::statuses;
 use dp_outside::{Net, Shelf, Sink, Source, Spawner};
 use dp_words::read_words;
 use std::alloc::Global;
@@ -65,129 +51,19 @@ pub fn top<R: Wait + Sync, H: Shelf, S: Source, K: Sink, E: Sink, N: Net, P: Spa
     net: &mut N,
     spawner: &mut P,
 ) -> u8
-    ensures usage { result ≡ 200 → (task : Task) → IsInvocation (map string_bytes words.now) task → ⊥ }
-    // Words that ask for nothing are reported, unless memory ran out as they were read.
-    ensures usage_only { ((task : Task) → IsInvocation (map string_bytes words.now) task → ⊥)
-        → (result ≡ 200) ⊎ (result ≡ 209) }
-    // An empty word, or one that begins with `-` where no `--bound` stands, is reported without any memory.
-    ensures usage_plain { are_plain (map string_bytes words.now) ≡ false → result ≡ 200 }
-    ensures usage_told { result ≡ 200 → Says (change E.taken E.faults err.old err.new) (codes "usage\n") }
-    ensures usage_input { result ≡ 200 → IsUntouched (change S.left S.faults input.old input.new) }
-    ensures usage_out { result ≡ 200 → IsUntouched (change K.taken K.faults out.old out.new) }
-    ensures usage_shelf { result ≡ 200 → H.faults shelf.new ≡ H.faults shelf.old }
-    ensures usage_fetched { result ≡ 200 → H.fetched shelf.new ≡ H.fetched shelf.old }
-    ensures usage_net { result ≡ 200 → net_seen N.Dialer N.shut_doors net.new ≡ net_seen N.Dialer N.shut_doors net.old }
-
-    ensures done { result ≤ 199 → IsDone result (map string_bytes words.now)
-        (seen H.Shelf S.Source K.Sink E.Sink N.Dialer N.shut_doors shelf.old input.old out.old err.old net.old)
-        (seen H.Shelf S.Source K.Sink E.Sink N.Dialer N.shut_doors shelf.new input.new out.new err.new net.new) }
-    // Memory may run out as the words are read.
-    ensures fails { 200 < result → Fails result (map string_bytes words.now)
-        (seen H.Shelf S.Source K.Sink E.Sink N.Dialer N.shut_doors shelf.old input.old out.old err.old net.old)
-        (seen H.Shelf S.Source K.Sink E.Sink N.Dialer N.shut_doors shelf.new input.new out.new err.new net.new)
-        ⊎ IsUnread result (seen H.Shelf S.Source K.Sink E.Sink N.Dialer N.shut_doors shelf.old input.old out.old err.old
-        net.old)
-        (seen H.Shelf S.Source K.Sink E.Sink N.Dialer N.shut_doors shelf.new input.new out.new err.new net.new) }
-
-    // Where the shelf tells the files, they make a program, and no count rose, it is run to its end, and all that it
-    // wrote is put.
-    ensures complete_run { (ask : Invocation) (program : Bundle) → IsRun (map string_bytes words.now) ask
-        → FilesMake (H.files shelf.old) ask.names (Ok program)
-        → NoneRose (seen H.Shelf S.Source K.Sink E.Sink N.Dialer N.shut_doors shelf.old input.old out.old err.old
-        net.old)
-        (seen H.Shelf S.Source K.Sink E.Sink N.Dialer N.shut_doors shelf.new input.new out.new err.new net.new)
-        → (result ≤ 199) ⊎ (result ≡ 255) ⊎ (result ≡ 209) }
-    // Likewise the session is served whole, or what is no command is reported.
-    ensures complete_talk { (key : List ℕ) (ask : Invocation) (program : Bundle)
-        → IsTalk (map string_bytes words.now) key ask
-        → FilesMake (H.files shelf.old) ask.names (Ok program)
-        → NoneRose (seen H.Shelf S.Source K.Sink E.Sink N.Dialer N.shut_doors shelf.old input.old out.old err.old
-        net.old)
-        (seen H.Shelf S.Source K.Sink E.Sink N.Dialer N.shut_doors shelf.new input.new out.new err.new net.new)
-        → (result ≤ 199) ⊎ (result ≡ 207) ⊎ (result ≡ 210) ⊎ (result ≡ 255) ⊎ (result ≡ 209) }
-    // Likewise over a link that was dialled.
-    ensures complete_engine { (address : Address) (key : List ℕ) (ask : Invocation) (program : Bundle)
-        → IsEngine (map string_bytes words.now) address key ask
-        → FilesMake (H.files shelf.old) ask.names (Ok program)
-        → NoneRose (seen H.Shelf S.Source K.Sink E.Sink N.Dialer N.shut_doors shelf.old input.old out.old err.old
-        net.old)
-        (seen H.Shelf S.Source K.Sink E.Sink N.Dialer N.shut_doors shelf.new input.new out.new err.new net.new)
-        → (result ≤ 199) ⊎ (result ≡ 207) ⊎ (result ≡ 210) ⊎ (result ≡ 255) ⊎ (result ≡ 209) }
-    // Where they make none, that is reported, unless the shelf fails first.
-    ensures refused { (task : Task) (ask : Invocation) (why : BundleError)
-        → IsInvocation (map string_bytes words.now) task
-        → invocation_in task ≡ Some ask
-        → FilesMake (H.files shelf.old) ask.names (Err why)
-        → (result ≡ 201) ⊎ (result ≡ 209) ⊎ Rose (H.faults shelf.old) (H.faults shelf.new) }
-    // Where no count rose, every packet is shown, or the input ended inside one, or what is no packet is reported.
-    ensures complete_show { IsInvocation (map string_bytes words.now) Task.show
-        → NoneRose (seen H.Shelf S.Source K.Sink E.Sink N.Dialer N.shut_doors shelf.old input.old out.old err.old
-        net.old)
-        (seen H.Shelf S.Source K.Sink E.Sink N.Dialer N.shut_doors shelf.new input.new out.new err.new net.new)
-        → (result ≡ 0) ⊎ (result ≡ 206) ⊎ (result ≡ 207) ⊎ (result ≡ 209) }
-
-    // A file that is no script is reported at its first line that is none, or at line 0 where it is too long, unless
-    // the shelf fails.
-    ensures script_refused { (port line : ℕ) (script : List ℕ) → IsIde (map string_bytes words.now) port script
-        → IsSome (H.files shelf.old) → IsNoScript (H.files shelf.old) script line
-        → (result ≡ 204) ⊎ (result ≡ 209) ⊎ Rose (H.faults shelf.old) (H.faults shelf.new) }
-    ensures script_held { (port : ℕ) (script : List ℕ) (instructions : List Instruction)
-        → IsIde (map string_bytes words.now) port script
-        → IsSome (H.files shelf.old) → IsScriptFile (H.files shelf.old) script instructions → result ≡ 204 → ⊥ }
-    // Where it is one, and no count rose, the script is played to its end, or what differs, the link's end or what is
-    // no packet is reported.
-    ensures complete_ide { (port : ℕ) (script : List ℕ) (instructions : List Instruction)
-        → IsIde (map string_bytes words.now) port script
-        → IsSome (H.files shelf.old) → IsScriptFile (H.files shelf.old) script instructions
-        → NoneRose (seen H.Shelf S.Source K.Sink E.Sink N.Dialer N.shut_doors shelf.old input.old out.old err.old
-        net.old)
-        (seen H.Shelf S.Source K.Sink E.Sink N.Dialer N.shut_doors shelf.new input.new out.new err.new net.new)
-        → (result ≡ 0) ⊎ (result ≡ 205) ⊎ (result ≡ 206) ⊎ (result ≡ 207) ⊎ (result ≡ 209) }
-
-    // A file that is no list of events is reported at its first line that adds nothing, or at line 0 where it is too
-    // long, unless the shelf fails or lacks a file of the program.
-    ensures list_refused { (events : List ℕ) (ask : Invocation) (line : ℕ) (made : Result Bundle BundleError)
-        → IsReplay (map string_bytes words.now) events ask → IsNoList (H.files shelf.old) events line
-        → FilesMake (H.files shelf.old) ask.names made
-        → (result ≡ 204) ⊎ (result ≡ 209) ⊎ Rose (H.faults shelf.old) (H.faults shelf.new) }
-    ensures list_held { (events : List ℕ) (ask : Invocation) (list : List Event)
-        → IsReplay (map string_bytes words.now) events ask
-        → IsSome (H.files shelf.old) → IsListFile (H.files shelf.old) events list → result ≡ 204 → ⊥ }
-    // Where it is one, files that make no program are reported, unless the shelf fails first.
-    ensures replay_refused { (events : List ℕ) (ask : Invocation) (list : List Event) (why : BundleError)
-        → IsReplay (map string_bytes words.now) events ask → IsListFile (H.files shelf.old) events list
-        → FilesMake (H.files shelf.old) ask.names (Err why)
-        → (result ≡ 201) ⊎ (result ≡ 209) ⊎ Rose (H.faults shelf.old) (H.faults shelf.new) }
-    // Where they make one, and no count rose, the whole transcript is put.
-    ensures complete_replay { (events : List ℕ) (ask : Invocation) (list : List Event) (program : Bundle)
-        → IsReplay (map string_bytes words.now) events ask → IsListFile (H.files shelf.old) events list
-        → FilesMake (H.files shelf.old) ask.names (Ok program)
-        → NoneRose (seen H.Shelf S.Source K.Sink E.Sink N.Dialer N.shut_doors shelf.old input.old out.old err.old
-        net.old)
-        (seen H.Shelf S.Source K.Sink E.Sink N.Dialer N.shut_doors shelf.new input.new out.new err.new net.new)
-        → (result ≡ 0) ⊎ (result ≡ 209) }
-
-    ensures show_shelf { IsInvocation (map string_bytes words.now) Task.show → H.faults shelf.new ≡ H.faults shelf.old }
-    // Only files that the words name are fetched, each once, in their order; for `show` none.
-    ensures fetched { (task : Task) → IsInvocation (map string_bytes words.now) task
-        → IsFetchedFor task (H.fetched shelf.old) (H.fetched shelf.new) }
-    ensures files { H.files shelf.new ≡ H.files shelf.old }
-    // The network is used by `engine` and `ide` alone.
-    ensures offline { (task : Task) → IsInvocation (map string_bytes words.now) task → uses_net task ≡ false
-        → net_seen N.Dialer N.shut_doors net.new ≡ net_seen N.Dialer N.shut_doors net.old }
-    ensures net_later { N.faults net.old ≤ N.faults net.new }
-    ensures returned_later { N.returned net.old ≤ N.returned net.new }
+    ensures answers { let before = seen H.Shelf S.Source K.Sink E.Sink N.Dialer N.asked_gates N.shut_doors
+        shelf.old input.old out.old err.old net.old in
+        let after = seen H.Shelf S.Source K.Sink E.Sink N.Dialer N.asked_gates N.shut_doors
+        shelf.new input.new out.new err.new net.new in
+        Answers result (map string_bytes words.now) before after }
+    // No command uses the spawner.
     ensures spawner { P.faults spawner.new ≡ P.faults spawner.old }
     ensures spawner_starts { P.starts spawner.new ≡ P.starts spawner.old }
-    ensures shelf_later { H.faults shelf.old ≤ H.faults shelf.new }
-    ensures input_later { S.faults input.old ≤ S.faults input.new }
-    ensures out_later { K.faults out.old ≤ K.faults out.new }
-    ensures err_later { E.faults err.old ≤ E.faults err.new }
 {
     match read_words(alloc, words) {
         Ok(None) => {
             say(err, b"usage\n");
-            200
+            statuses::USAGE
         }
         Ok(Some(command)) => match carry_out_on(rt, alloc, command, shelf, input, out, err, net) {
             Ok(status) => status,
@@ -195,7 +71,7 @@ pub fn top<R: Wait + Sync, H: Shelf, S: Source, K: Sink, E: Sink, N: Net, P: Spa
         },
         Err(_) => {
             say(err, b"out of memory\n");
-            209
+            statuses::MEMORY
         }
     }
 }

@@ -12,20 +12,21 @@ use Rattle.dp_events.specs.declared.event.Event.{Event}
 use Rattle.dp_top.specs.Failures.{status_of}
 use Rattle.dp_top.specs.Replay.{IsListFile}
 use Rattle.dp_top.specs.Seen.{Seen}
+use Rattle.dp_top.specs.Statuses.{source_status}
 
 -- it is reported as a bad source, or memory ran out
 abbrev pub IsBadSource : Failure → Type 0
-IsBadSource failure = (status_of failure ≡ 201) ⊎ (failure ≡ Memory)
+IsBadSource failure = (status_of failure ≡ source_status) ⊎ (failure ≡ Memory)
 
 -- it is no bad source, and no file that is lacking
 abbrev pub IsGood : Failure → Type 0
-IsGood failure = (status_of failure ≢ 201) × (failure ≢ NoFile)
+IsGood failure = (status_of failure ≢ source_status) × (failure ≢ NoFile)
 
 -- files that make a program are no bad source, and those that make none are one, unless the shelf
 -- failed
 abbrev pub IsComplete : {A : Type 0} → Result Bundle BundleError → Result A Refused → ℕ → ℕ → Type 0
 IsComplete (Ok program) result before after =
-    IfErr result (λ why. (status_of why.failure ≢ 201) × (why.failure ≢ NoFile))
+    IfErr result (λ why. (status_of why.failure ≢ source_status) × (why.failure ≢ NoFile))
 IsComplete (Err e) result before after =
     MatchResult result (λ _. ⊥) (λ why. IsBadSource why.failure ⊎ Rose before after)
 

@@ -7,7 +7,7 @@ use Rattle.dp_program.proofs.RunLaws.{complete_unfetched, for_bundle}
 use Rattle.dp_tree.specs.declared.bundle.Bundle.{Bundle}
 use Rattle.dp_words.specs.Commands.{invocation_seen}
 use Rattle.dp_words.proofs.NameLaws.{names_of}
-use Rattle.dp_top.proofs.ReplayLaws.{first_and, since, status_small, unfetched_fails, unlisted_fails, unlisted_held}
+use Rattle.dp_top.proofs.ReplayLaws.{first_and, none_bad, since, status_small, unfetched_fails, unlisted_fails, unlisted_held}
 use Rattle.dp_top.specs.Lines.{lines_limit}
 use Rattle.dp_top.proofs.RunReports.{complete_failure, fetched}
 use Rattle.dp_top.proofs.replay.replay.Goals as goal
@@ -24,7 +24,10 @@ returns-in-Err-clause-ends g c =
     (invocation_seen c.args.request.program) (g.H.Shelf.files c.args.shelf.now)
     (g.H.Shelf.faults c.args.shelf.now) (g.H.Shelf.faults c.fetch_list.new.shelf)
     (change g.K.Sink.taken g.K.Sink.faults c.args.out.now c.args.out.now)
-    c.in-Err.ensures.unlisted (refl, refl)
+    c.in-Err.ensures.unlisted
+    (none_bad c.in-Err.why.failure (invocation_seen c.args.request.program) (g.H.Shelf.files c.args.shelf.now)
+    c.in-Err.ensures.unread)
+    (refl, refl)
 
 pub returns-in-Ok-fetch_files-clause-ends : goal.returns-in-Ok-fetch_files-clause-ends
 returns-in-Ok-fetch_files-clause-ends g c =
@@ -70,7 +73,7 @@ returns-clause-ends g c =
     (invocation_seen c.args.request.program)
     (change g.K.Sink.taken g.K.Sink.faults c.args.out.now c.args.out.now) why c.refusal_of_program.result.failure
     c.refusal_of_program.result.name.now
-    first c.in-Ok.ensures.later
+    first c.in-Ok.content c.in-Ok.ensures.later c.in-Ok.ensures.held
     (subst (λ (f : Files). ProgramCaused why f first after names) c.in-Ok.ensures.files
     c.in-Err-fetch_files.ensures.err)
     c.in-Err-fetch_files.ensures.unread c.refusal_of_program.ensures (refl, refl)

@@ -6,7 +6,7 @@ use Rattle.dp_outside.specs.Changes.{change}
 use Rattle.dp_events.specs.Lists.{IsFirstBad}
 use Rattle.dp_words.specs.Commands.{invocation_seen}
 use Rattle.dp_top.proofs.LineLaws.{bad_bytes}
-use Rattle.dp_top.proofs.ReplayLaws.{bad_held, held_list, over_complete, over_ends, unlisted_fails, unmade_fails}
+use Rattle.dp_top.proofs.ReplayLaws.{all_before, bad_held, held_list, over_complete, over_ends, unlisted_fails, unmade_fails}
 use Rattle.dp_top.proofs.replay.replay_fetched.Goals as goal
 
 pub returns-in-Err-clause-ends : goal.returns-in-Err-clause-ends
@@ -17,7 +17,7 @@ returns-in-Err-clause-ends g c = λ files before after fetched are.
     unlisted_fails why.failure why.name.now name (invocation_seen c.args.request.program) files before after out
     (bad_bytes IsFirstBad why.failure why.name.now name c.args.content.now files before after fetched
     c.in-Err.ensures.bad)
-    (refl, refl)
+    (all_before why.failure (invocation_seen c.args.request.program) files c.args.fetched are) (refl, refl)
 
 pub returns-in-Ok-make_program-clause-ends : goal.returns-in-Ok-make_program-clause-ends
 returns-in-Ok-make_program-clause-ends g c = λ files before after fetched are.
