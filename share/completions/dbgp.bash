@@ -18,7 +18,7 @@ _dbgp() {
     local word=${COMP_WORDS[COMP_CWORD]} command=${COMP_WORDS[1]} place first
     COMPREPLY=()
     if ((COMP_CWORD == 1)); then
-        mapfile -t COMPREPLY < <(compgen -W 'run talk engine ide replay show' -- "$word")
+        mapfile -t COMPREPLY < <(compgen -W 'run talk engine ide replay soak show' -- "$word")
         return
     fi
     if ((COMP_CWORD == 2)) && [[ $word == -* && $command =~ ^(run|talk|engine|replay)$ ]]; then

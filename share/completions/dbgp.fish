@@ -26,6 +26,7 @@ complete -c dbgp -n __fish_use_subcommand -a talk -d 'serve a session: commands 
 complete -c dbgp -n __fish_use_subcommand -a engine -d 'connect to an IDE and serve it a session'
 complete -c dbgp -n __fish_use_subcommand -a ide -d 'wait for an engine and play a script'
 complete -c dbgp -n __fish_use_subcommand -a replay -d 'play a proxy over a list of events'
+complete -c dbgp -n __fish_use_subcommand -a soak -d 'replay a list of events that is drawn, and print its numbers'
 complete -c dbgp -n __fish_use_subcommand -a show -d 'print framed packets, one a line'
 for command in run talk engine replay
     complete -c dbgp -n "__dbgp_word_is $command 0" -l bound -x -d 'how many moments it may have'

@@ -1,4 +1,5 @@
 pub mod RunReports
+pub mod SoakLaws
 pub mod TalkLaws
 pub mod TaskLaws
 pub mod TopLaws

@@ -44,20 +44,20 @@ unlisted_fails why name events ask files before after out (inr unlisted) fetched
 -- no line was refused
 pub none_bad : (why : Failure) (ask : Invocation) (files : Files) → is_bad_line why ≡ false
     → FetchedBefore why ask files
-none_bad (failure.Script line) ask files no = absurd cc
-none_bad failure.TooLong ask files no = tt
-none_bad (failure.Source reason number) ask files no = tt
-none_bad failure.ShelfFailed ask files no = tt
-none_bad failure.NoFile ask files no = tt
-none_bad (failure.Fatal kind line) ask files no = tt
-none_bad (failure.Bound steps) ask files no = tt
-none_bad failure.Output ask files no = tt
-none_bad (failure.Differs line wanted found) ask files no = tt
-none_bad failure.PeerEnd ask files no = tt
-none_bad (failure.Packet offset) ask files no = tt
-none_bad failure.Network ask files no = tt
-none_bad failure.Stopped ask files no = tt
-none_bad failure.Memory ask files no = tt
+none_bad (failure.Script line) ask files fine = absurd cc
+none_bad failure.TooLong ask files fine = tt
+none_bad (failure.Source reason number) ask files fine = tt
+none_bad failure.ShelfFailed ask files fine = tt
+none_bad failure.NoFile ask files fine = tt
+none_bad (failure.Fatal kind line) ask files fine = tt
+none_bad (failure.Bound steps) ask files fine = tt
+none_bad failure.Output ask files fine = tt
+none_bad (failure.Differs line wanted found) ask files fine = tt
+none_bad failure.PeerEnd ask files fine = tt
+none_bad (failure.Packet offset) ask files fine = tt
+none_bad failure.Network ask files fine = tt
+none_bad failure.Stopped ask files fine = tt
+none_bad failure.Memory ask files fine = tt
 
 -- the files were fetched, so they were before whatever is refused
 pub all_before : (why : Failure) (ask : Invocation) (files : Files) (fetched : List Given)

@@ -3,6 +3,7 @@ use Rattle.std.proofs.Common.{◌≡◌, ◌⊎◌, ℕ, ◌<◌, ◌≤◌, Lis
 use Rattle.std.specs.Prelude.{if◌then◌else◌, option_and_then}
 use Rattle.std.specs.Option.{option_map, option_map_or}
 use Rattle.std.specs.Str.{bytes_eq}
+use Rattle.dp_value.specs.Decimals.{decimal_in}
 use Rattle.dp_outside.specs.Causes.{Rose}
 use Rattle.dp_outside.specs.Changes.{Change}
 use Rattle.dp_show.specs.declared.errors.ShowError.{ShowError}
@@ -25,7 +26,7 @@ use Rattle.dp_program.specs.Runs.{RunCaused}
 use Rattle.dp_state.specs.declared.moments.Outcome.{Outcome}
 use Rattle.dp_state.specs.declared.moments.Outcome.TheVariants as way
 use Rattle.dp_top.specs.declared.failures.Refused.{Refused}
-use Rattle.dp_words.specs.Words.{Address, Invocation, IsEngine, IsRun, IsTalk, Task, run, talk, engine, ide, replay, show, IsInvocation, invocation_in, invocation_of, port_of, uses_net}
+use Rattle.dp_words.specs.Words.{Address, Invocation, IsEngine, IsRun, IsSoak, IsTalk, Task, run, talk, engine, ide, replay, soak, show, IsInvocation, invocation_in, invocation_of, port_of, seed_limit, session_count_of, uses_net, uses_shelf}
 use Rattle.dp_outside.specs.Links.{CountsReturned}
 use Rattle.dp_top.specs.Engine.{EngineFails, EndsSo as EngineEnds}
 use Rattle.dp_top.specs.Links.{IsDialled}
@@ -36,6 +37,7 @@ use Rattle.dp_world.specs.declared.errors.ReplayError.TheVariants as replayed
 use Rattle.dp_top.specs.Runs.{RunFails, failure_of as failure_told, program_failure}
 use Rattle.dp_top.specs.inner.Completeness.{AreComplete, IsBadSource, IsGood}
 use Rattle.dp_top.specs.Seen.{NoneRose, Seen, Stream, changed}
+use Rattle.dp_top.specs.Soak.{SoakFails}
 use Rattle.dp_top.specs.Talk.{EndReport, EndsSo, TalkFails, ended, judged_by}
 use Rattle.dp_top.specs.Tasks.{failure_of, ShowCaused, Does, Caused, Fails, IsFetchedFor, before_line}
 use Rattle.dp_top.proofs.RunReports.{bad_source, nothing_fetched}
@@ -61,6 +63,12 @@ abbrev asked_replay : ℕ → List (List ℕ) → Option Task
 asked_replay bound [] = None
 asked_replay bound (events ∷ names) = Some (replay events (record { bound = bound; names = names }))
 
+abbrev asked_soak : List (List ℕ) → Option Task
+asked_soak (number ∷ drawn ∷ []) =
+    option_and_then (λ count. option_map (λ seed. soak count seed) (decimal_in seed_limit drawn))
+    (session_count_of number)
+asked_soak words = None
+
 abbrev asked_behind : (ℕ → List (List ℕ) → Option Task) → List (List ℕ) → Option Task
 asked_behind asked behind =
     option_and_then (λ (ask : Invocation). asked ask.bound ask.names) (invocation_of behind)
@@ -72,7 +80,8 @@ asked_by name behind =
     else (if bytes_eq name (codes "talk") then asked_behind asked_talk behind
     else (if bytes_eq name (codes "engine") then asked_behind asked_engine behind
     else (if bytes_eq name (codes "ide") then asked_ide behind
-    else (if bytes_eq name (codes "replay") then asked_behind asked_replay behind else Some show))))
+    else (if bytes_eq name (codes "replay") then asked_behind asked_replay behind
+    else (if bytes_eq name (codes "soak") then asked_soak behind else Some show)))))
 
 abbrev asked : List (List ℕ) → Option Task
 asked [] = None
@@ -92,6 +101,10 @@ asked_so words (ide port script) h =
 asked_so words (replay events ask) h =
     ap asked h.words_are
     ∙ ap (option_and_then (λ (a : Invocation). asked_replay a.bound a.names)) h.replays.invocation
+asked_so words (soak count seed) h =
+    ap asked h.words_are
+    ∙ ap (option_and_then (λ n. option_map (λ d. soak n d) (decimal_in seed_limit h.drawn))) h.is_count
+    ∙ ap (option_map (λ d. soak count d)) h.is_seed
 asked_so words show h = ap asked h
 
 -- the words ask for one task
@@ -135,6 +148,7 @@ memory_name (talk key ask) name = name
 memory_name (engine address key ask) name = name
 memory_name (ide port script) name = name
 memory_name (replay events ask) name = name
+memory_name (soak count seed) name = name
 memory_name show name = name
 
 -- memory ran out once a session was served, or there was none
@@ -170,6 +184,11 @@ replay_starved failed name events ask files before after out (inr (inr (inl u)))
 replay_starved failed name events ask files before after out (inr (inr (inr h))) =
     inl (refl, inr (Err replayed.OutFault, h.replayed))
 
+soak_starved : (failed : Failure) (name : List ℕ) (count seed : ℕ) (out : Change)
+    → SoakFails failed name count seed out → SoakFails failure.Memory name count seed out
+soak_starved failed name count seed out (inl memory) = inl (refl, memory.1)
+soak_starved failed name count seed out (inr h) = inl (refl, inr h.2)
+
 -- out of memory may come in place of any failure
 memory_instead : (failed : Failure) (name : List ℕ) (task : Task) (old new : Seen) → Caused failed name task old new
     → Caused failure.Memory (memory_name task name) task old new
@@ -180,6 +199,8 @@ memory_instead failed name (engine address key ask) old new h = engine_starved f
 memory_instead failed name (ide port script) old new h = ide_starved failed name port script old new h
 memory_instead failed name (replay events ask) old new h =
     (replay_starved failed name events ask _ _ _ _ h.0, h.1, h.2, h.3)
+memory_instead failed name (soak count seed) old new h =
+    (soak_starved failed name count seed _ h.0, h.1, h.2, h.3)
 memory_instead failed name show old new h = (h.0, show_cut failed _ _ h.1, h.2, h.3)
 
 -- the failure is told, or there is no memory for its line
@@ -455,6 +476,7 @@ done_offline status (talk key ask) old new h e = h.1
 done_offline status (engine address key ask) old new h e = absurd cc
 done_offline status (ide port script) old new h e = absurd cc
 done_offline status (replay events ask) old new h e = h.3
+done_offline status (soak count seed) old new h e = h.3
 done_offline status show old new h e = h.3
 
 caused_offline : (failed : Failure) (name : List ℕ) (task : Task) (old new : Seen) → Caused failed name task old new
@@ -464,6 +486,7 @@ caused_offline failed name (talk key ask) old new h e = h.1
 caused_offline failed name (engine address key ask) old new h e = absurd cc
 caused_offline failed name (ide port script) old new h e = absurd cc
 caused_offline failed name (replay events ask) old new h e = h.3
+caused_offline failed name (soak count seed) old new h e = h.3
 caused_offline failed name show old new h e = h.3
 
 pub asks_offline : (words : List (List ℕ)) (task other : Task) → IsInvocation words task → IsInvocation words other
@@ -569,9 +592,10 @@ complete_show_fails status words old new f asks none =
       by (inr (inl e)) = inr (inr (inl (f.is_status ∙ e)))
       by (inr (inr e)) = inr (inr (inr (f.is_status ∙ e)))
 
--- what is asked for is this
-pub asks_show : (words : List (List ℕ)) (task : Task) → IsInvocation words task → IsInvocation words show → task ≡ show
-asks_show words task asks other = one_task words task show asks other
+-- what is asked for does not use the shelf
+pub asks_unshelved : (words : List (List ℕ)) (task other : Task) → IsInvocation words task → IsInvocation words other
+    → uses_shelf other ≡ false → uses_shelf task ≡ false
+asks_unshelved words task other p q e = ap uses_shelf (one_task words task other p q) ∙ e
 
 -- what was shown well has the status 0
 pub shows_well : (status : ℕ) (words : List (List ℕ)) (task : Task) (old new : Seen) → IsInvocation words task
@@ -591,4 +615,29 @@ none_fetched (talk key ask) told = nothing_fetched (Some ask) told
 none_fetched (engine address key ask) told = nothing_fetched (Some ask) told
 none_fetched (ide port script) told = (0, grown_by_none told)
 none_fetched (replay events ask) told = (0, grown_by_none told)
+none_fetched (soak count seed) told = refl
 none_fetched show told = refl
+
+-- ---- `soak`
+
+-- where no count rose, what fails is memory
+pub complete_soak_told : (status : ℕ) (words : List (List ℕ)) (task : Task) (old new : Seen) (refused : Refused)
+    (A B : Type 0) → IsInvocation words task
+    → Caused refused.failure refused.name.now task old new
+    → ((status ≡ status_of refused.failure) × A) ⊎ ((status ≡ 209) × B)
+    → (count seed : ℕ) → IsSoak words count seed → NoneRose old new → (status ≡ 0) ⊎ (status ≡ 209)
+complete_soak_told status words task old new refused A B asks caused told count seed is none =
+    by told (subst (λ (t : Task). Caused refused.failure refused.name.now t old new)
+    (one_task words task (soak count seed) asks is) caused).0 where
+      by : ((status ≡ status_of refused.failure) × A) ⊎ ((status ≡ 209) × B)
+          → SoakFails refused.failure refused.name.now count seed (changed old.out new.out)
+          → (status ≡ 0) ⊎ (status ≡ 209)
+      by (inr t) fails = inr t.0
+      by (inl t) (inl memory) = inr (t.0 ∙ ap status_of memory.0)
+      by (inl t) (inr h) = absurd (none.out_not h.2.fault)
+
+-- what was counted well has the status 0
+pub soaks_well : (status : ℕ) (words : List (List ℕ)) (task : Task) (old new : Seen) → IsInvocation words task
+    → Does status task old new → (count seed : ℕ) → IsSoak words count seed → status ≡ 0
+soaks_well status words task old new asks does count seed is =
+    (subst (λ (t : Task). Does status t old new) (one_task words task (soak count seed) asks is) does).0.is_status

@@ -1,6 +1,6 @@
 -- The answer of the top call, by how it came to it.
 use Rattle.std.proofs.Common.{◌≡◌, ◌⊎◌, ℕ, ◌<◌, ◌≤◌, false, List, Ok, Err, refl, arith, inl, inr, codes}
-use Rattle.dp_words.specs.Words.{IsInvocation, Task, run, talk, engine, ide, replay, show}
+use Rattle.dp_words.specs.Words.{IsInvocation, Task, run, talk, engine, ide, replay, soak, show}
 use Rattle.dp_words.specs.Plain.{are_plain}
 use Rattle.dp_top.specs.declared.failures.Refused.{Refused}
 use Rattle.dp_top.specs.Failures.{status_of, line_of, Says}
@@ -10,7 +10,7 @@ use Rattle.dp_top.specs.Top.{Answers}
 use Rattle.dp_top.specs.inner.Carried.{IsCarriedOut}
 use Rattle.dp_top.proofs.IdeLaws.{complete_ide_told, plays_well, script_held_told, script_refused_done, script_refused_told}
 use Rattle.dp_top.proofs.ReplayReports.{asks_replay, complete_replay_told, list_held_told, list_refused_done, list_refused_told, replays_well}
-use Rattle.dp_top.proofs.TaskLaws.{asks_fetched, asks_program, asks_show, complete_engine_told, complete_run_told, complete_show_fails, complete_talk_told, fails_told, none_fetched, offline_caused, offline_done, refused_told, shows_well, told_above}
+use Rattle.dp_top.proofs.TaskLaws.{asks_fetched, asks_program, asks_unshelved, complete_engine_told, complete_run_told, complete_show_fails, complete_soak_told, complete_talk_told, fails_told, none_fetched, offline_caused, offline_done, refused_told, shows_well, soaks_well, told_above}
 
 -- the words ask for nothing, which is said
 pub usage_answers : (words : List (List ℕ)) (old : Seen) (err : Stream)
@@ -40,7 +40,8 @@ usage_answers words old err none says later = record {
   list_held = λ events ask list is told held same. none (replay events ask) is;
   replay_refused = λ events ask list why is held makes. absurd (none (replay events ask) is);
   complete_replay = λ events ask list program is held makes still. absurd (none (replay events ask) is);
-  show_shelf = λ is. refl;
+  complete_soak = λ count seed is still. absurd (none (soak count seed) is);
+  unshelved = λ task is off. refl;
   fetched = λ task is. none_fetched task old.shelf.fetched;
   files = refl;
   offline = λ task is off. refl;
@@ -86,7 +87,8 @@ unread_answers words old err plain says later = record {
   list_held = λ events ask list is told held same. omega (arith, same);
   replay_refused = λ events ask list why is held makes. inr (inl refl);
   complete_replay = λ events ask list program is held makes still. inr refl;
-  show_shelf = λ is. refl;
+  complete_soak = λ count seed is still. inr refl;
+  unshelved = λ task is off. refl;
   fetched = λ task is. none_fetched task old.shelf.fetched;
   files = refl;
   offline = λ task is off. refl;
@@ -132,7 +134,8 @@ done_answers status words task old new asks plain carried = record {
       held);
   complete_replay = λ events ask list program is held makes still.
       inl (replays_well status words task old new asks carried.ends events ask is);
-  show_shelf = λ is. carried.show_shelf (asks_show words task asks is);
+  complete_soak = λ count seed is still. inl (soaks_well status words task old new asks carried.ends count seed is);
+  unshelved = λ other is off. carried.unshelved (asks_unshelved words task other asks is off);
   fetched = λ other is. asks_fetched words task other old.shelf.fetched new.shelf.fetched asks carried.fetched is;
   files = carried.goes_on.files;
   offline = λ other is off. offline_done status words task other old new asks carried.ends is off;
@@ -211,7 +214,10 @@ module _ (status : ℕ) (words : List (List ℕ)) (task : Task) (refused : Refus
         complete_replay_told status words task old mid refused _ _ asks carried.ends told events ask list is makes.tells
         held ((carried.replay_held events ask (asks_replay words task events ask asks is)).by_files (Ok program) makes
         list held) (still_before still);
-    show_shelf = λ is. carried.show_shelf (asks_show words task asks is);
+    complete_soak = λ count seed is still.
+        complete_soak_told status words task old mid refused _ _ asks carried.ends told count seed is
+        (still_before still);
+    unshelved = λ other is off. carried.unshelved (asks_unshelved words task other asks is off);
     fetched = λ other is. asks_fetched words task other old.shelf.fetched new.shelf.fetched asks carried.fetched is;
     files = carried.goes_on.files;
     offline = λ other is off.

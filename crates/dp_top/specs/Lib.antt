@@ -7,6 +7,7 @@ pub mod Replay
 pub mod Links
 pub mod Runs
 pub mod Seen
+pub mod Soak
 pub mod Sources
 pub mod Statuses
 pub mod Talk

@@ -6,7 +6,7 @@ use Rattle.dp_show.specs.declared.errors.ShowError.TheVariants as ends
 use Rattle.dp_show.specs.Shows.{Shows, Ends}
 use Rattle.dp_top.specs.declared.failures.Failure.{Failure}
 use Rattle.dp_top.specs.declared.failures.Failure.TheVariants.{TooLong, Source, ShelfFailed, NoFile, Fatal, Bound, Output, Script, Differs, PeerEnd, Packet, Network, Stopped, Memory}
-use Rattle.dp_words.specs.Words.{Task, run, talk, engine, ide, replay, show, IsInvocation, invocation_in}
+use Rattle.dp_words.specs.Words.{Task, run, talk, engine, ide, replay, soak, show, IsInvocation, invocation_in}
 use Rattle.dp_top.specs.Engine.{Engages, EngineFails}
 use Rattle.dp_top.specs.Ide.{Plays, IdeFails}
 use Rattle.dp_top.specs.Replay.{DoesReplay, ReplayFails}
@@ -15,6 +15,7 @@ use Rattle.dp_program.specs.Runs.{Runs}
 use Rattle.dp_program.specs.Programs.{RequestedNames}
 use Rattle.dp_top.specs.Runs.{AreFetched, IsFetched, RunFails}
 use Rattle.dp_top.specs.Seen.{Seen, Stream, changed}
+use Rattle.dp_top.specs.Soak.{Soaks, SoakFails}
 use Rattle.dp_top.specs.Statuses.{memory_status}
 use Rattle.dp_top.specs.Talk.{Talks, TalkFails}
 
@@ -65,6 +66,9 @@ Does status (ide port script) old new = Plays status port script old new
 Does status (replay events ask) old new =
     DoesReplay status events ask old.shelf.files (changed old.out new.out)
     × IsStill old.input new.input × IsStill old.err new.err × IsOffline old new
+Does status (soak count seed) old new =
+    Soaks status count seed (changed old.out new.out)
+    × IsStill old.input new.input × IsStill old.err new.err × IsOffline old new
 Does status show old new =
     (status ≡ 0) × Shows (Ok tt) (changed old.input new.input) (changed old.out new.out)
     × IsStill old.err new.err × IsOffline old new
@@ -83,6 +87,9 @@ Caused failure name (ide port script) old new = IdeFails failure name port scrip
 Caused failure name (replay events ask) old new =
     ReplayFails failure name events ask old.shelf.files old.shelf.faults new.shelf.faults
     (changed old.out new.out)
+    × IsStill old.input new.input × IsStill old.err new.err × IsOffline old new
+Caused failure name (soak count seed) old new =
+    SoakFails failure name count seed (changed old.out new.out)
     × IsStill old.input new.input × IsStill old.err new.err × IsOffline old new
 Caused failure name show old new =
     (name ≡ []) × ShowCaused failure (changed old.input new.input) (changed old.out new.out)

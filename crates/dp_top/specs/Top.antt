@@ -7,7 +7,7 @@ use Rattle.dp_events.specs.declared.event.Event.{Event}
 use Rattle.dp_program.specs.Programs.{FilesMake}
 use Rattle.dp_tree.specs.declared.bundle.Bundle.{Bundle}
 use Rattle.dp_words.specs.Words.{Address, Invocation, IsEngine, IsIde, IsInvocation, IsReplay}
-use Rattle.dp_words.specs.Words.{IsRun, IsTalk, Task, show, invocation_in, uses_net}
+use Rattle.dp_words.specs.Words.{IsRun, IsSoak, IsTalk, Task, show, invocation_in, uses_net, uses_shelf}
 use Rattle.dp_words.specs.Plain.{are_plain}
 use Rattle.dp_top.specs.Failures.{Says}
 use Rattle.dp_top.specs.Ide.{IsNoScript, IsScriptFile}
@@ -109,10 +109,15 @@ pub record Answers (status : ℕ) (words : List (List ℕ)) (old new : Seen) : T
       → IsReplay words events ask → IsListFile old.shelf.files events list
       → FilesMake old.shelf.files ask.names (Ok program) → NoneRose old new
       → (status ≡ 0) ⊎ (status ≡ memory_status)
+  -- Where no count rose, the line of the list that is drawn is put.
+  pub complete_soak : (count seed : ℕ) → IsSoak words count seed → NoneRose old new
+      → (status ≡ 0) ⊎ (status ≡ memory_status)
   -- ---- the objects
 
-  pub show_shelf : IsInvocation words show → new.shelf.faults ≡ old.shelf.faults
-  -- Only files that the words name are fetched, each once, in their order; for `show` none.
+  -- The shelf is used by neither `soak` nor `show`.
+  pub unshelved : (task : Task) → IsInvocation words task → uses_shelf task ≡ false
+      → new.shelf ≡ old.shelf
+  -- Only files that the words name are fetched, each once, in their order.
   pub fetched : (task : Task) → IsInvocation words task
       → IsFetchedFor task old.shelf.fetched new.shelf.fetched
   pub files : new.shelf.files ≡ old.shelf.files

@@ -1,8 +1,8 @@
 //! Hands each command to the function of its file, and makes its end a status or a `Failure`. `show` stands here.
-ghost use Rattle.std.specs.Prelude.{◌≡◌, ◌≤◌, ℕ, List, [], Ok, Some, IfOk, MatchResult};
+ghost use Rattle.std.specs.Prelude.{◌≡◌, ◌≤◌, ℕ, false, List, [], Ok, Some, IfOk, MatchResult};
 ghost use Rattle.dp_outside.specs.Changes.{change};
 ghost use Rattle.dp_show.specs.Shows.{Shows};
-ghost use Rattle.dp_words.specs.Words.{Invocation, Task, IsInvocation, invocation_in};
+ghost use Rattle.dp_words.specs.Words.{Invocation, Task, IsInvocation, invocation_in, uses_shelf};
 ghost use Rattle.dp_words.specs.Commands.{task_of};
 ghost use Rattle.dp_top.specs.inner.Carried.{IsCarriedOut};
 ghost use Rattle.dp_top.specs.inner.Completeness.{AreComplete, AreCompleteWith};
@@ -17,6 +17,7 @@ use crate::ide::ide;
 use crate::objects::Objects;
 use crate::replay::replay;
 use crate::run::run;
+use crate::soak::soak;
 use crate::talk::talk;
 use dp_outside::{Net, Shelf, Sink, Source};
 use dp_show::{ShowError, show};
@@ -78,8 +79,8 @@ pub(crate) fn carry_out<'a, R: Wait + Sync, H: Shelf, S: Source, K: Sink, E: Sin
     // Likewise of a list of events, where it is one.
     ensures replay_held { (events : List ℕ) (ask : Invocation) → task_of command.entry ≡ Task.replay events ask
         → AreCompleteWith events ask result objects.old.seen objects.new.seen }
-    ensures show_shelf { task_of command.entry ≡ Task.show
-        → objects.new.seen.shelf.faults ≡ objects.old.seen.shelf.faults }
+    ensures unshelved { uses_shelf (task_of command.entry) ≡ false
+        → objects.new.seen.shelf ≡ objects.old.seen.shelf }
     ensures fetched { IsFetchedFor (task_of command.entry) objects.old.seen.shelf.fetched
         objects.new.seen.shelf.fetched }
     ensures goes_on { GoesOn objects.old objects.new }
@@ -90,6 +91,7 @@ pub(crate) fn carry_out<'a, R: Wait + Sync, H: Shelf, S: Source, K: Sink, E: Sin
         Command::Engine(request) => engine(alloc, request, objects),
         Command::Ide(request) => ide(rt, alloc, request, objects),
         Command::Replay(request) => replay(alloc, request, objects.shelf, objects.out),
+        Command::Soak(request) => soak(alloc, request, objects.out),
         Command::Show => show_all(alloc, objects.input, objects.out),
     }
 }

@@ -44,6 +44,8 @@ impl<'a, L: Ledger> Model for Debugged<'a, L> {
 }
 
 impl<'a, L: Ledger> Engines for Debugged<'a, L> {
+    ghost use Rattle.std.specs.Prelude.{◌≡◌, IfOk};
+    ghost use Rattle.dp_engine.specs.Served.{ending_after, rest_after};
     ghost use Rattle.dp_top.specs.Engines.{engines_of};
 
     type Session = Session<'a>;
@@ -77,7 +79,10 @@ impl<'a, L: Ledger> Engines for Debugged<'a, L> {
         ended: Option<SessionEnd>,
         alloc: Global,
         steps: &mut Steps<L>,
-    ) -> Result<(Bytes, Option<Outcome>), Memory> {
+    ) -> Result<(Bytes, Option<Outcome>), Memory>
+        ensures rest { IfOk result (λ end. end.0 ≡ rest_after ended session.entry) }
+        ensures outcome { IfOk result (λ end. end.1 ≡ ending_after ended session.entry) }
+    {
         match ended {
             Some(SessionEnd::Killed) => {
                 drop(session);

@@ -11,6 +11,7 @@ mod objects;
 mod replay;
 mod run;
 mod sessions;
+mod soak;
 mod statuses;
 mod talk;
 mod top_call;

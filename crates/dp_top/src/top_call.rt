@@ -19,12 +19,13 @@ use std::sync::Wait;
 /// HOST PORT KEY FILE..` serves one over a link that `net` dials, with the program's own output on `out`; `ide PORT
 /// SCRIPT` plays the script over the link that an engine makes to the port, and what it prints goes to `out`; `replay
 /// [--bound N] EVENTS FILE..` writes the transcript of the list of events on `out`, with engines in memory that run the
-/// program; `show` reads framed packets from `input` and prints the element of each on `out`, in canonical text with a
+/// program; `soak N SEED` replays a list of N sessions that is drawn from SEED over one program, and prints its numbers
+/// on `out`; `show` reads framed packets from `input` and prints the element of each on `out`, in canonical text with a
 /// line feed.
 ///
 /// | status | comes | line on `err` |
 /// |---|---|---|
-/// | 0 to 199 | the program exited so, or came to its end (0); all packets are shown (0); the script or the list was played (0) | none |
+/// | 0 to 199 | the program exited so, or came to its end (0); all packets are shown (0); the script or the list was played (0); the numbers are printed (0) | none |
 /// | 200 | the words ask for nothing | `usage` |
 /// | 201 | a file is too long or no program | `bad source NAME REASON NUMBER` |
 /// | 202 | the shelf failed, or lacks a file | `shelf failed NAME`, `no file NAME` |
@@ -38,8 +39,9 @@ use std::sync::Wait;
 /// | 210 | a command stopped the program before its end | `stopped by the IDE` |
 /// | 255 | the program could not go on, or would have had more moments than N | `fatal KIND in NAME on line N`, `bound reached after N steps` |
 ///
-/// It waits in the calls of `input`, of `net`, of a gate and of a link alone. `show` does not use the shelf, nor `run`,
-/// `engine`, `ide` and `replay` the input; `net` is used by `engine` and `ide` alone, and `spawner` is not used.
+/// It waits in the calls of `input`, of `net`, of a gate and of a link alone. `soak` and `show` do not use the shelf,
+/// nor `run`, `engine`, `ide`, `replay` and `soak` the input; `net` is used by `engine` and `ide` alone, and `spawner`
+/// is not used.
 pub fn top<R: Wait + Sync, H: Shelf, S: Source, K: Sink, E: Sink, N: Net, P: Spawner>(
     rt: &R,
     alloc: Global,

@@ -1,4 +1,5 @@
-//! The engine and the scripted IDE, each called as a program calls it, in two threads over loopback.
+//! The engine and the scripted IDE, each called as a program calls it, in two threads over loopback; and a large list
+//! of events.
 
 use dp_adapters::TcpNet;
 use dp_outside::{ByteSink, ByteSource, MapShelf, Memory, NoSpawner};
@@ -135,5 +136,25 @@ fn an_engine_and_a_script_meet(rt: HostRuntime) -> Result<(), Fail> {
         assert_eq!(rt; ended.out.as_slice(), out.as_bytes());
         assert_eq!(rt; ended.status, 0);
     }
+    Ok(())
+}
+
+/// A large list of events that is drawn: two calls print the same line, of so many sessions.
+#[test]
+fn two_soaks_print_the_same(rt: HostRuntime) -> Result<(), Fail> {
+    let alloc = rt.alloc();
+    let words = ["soak", "1000", "7"];
+    let mut shelf = shelf_with(alloc, "a.php", PROGRAM)?;
+    let first = call(&rt, alloc, &words, &mut shelf)?;
+    let second = call(&rt, alloc, &words, &mut shelf)?;
+    assert_eq!(rt; first.status, 0);
+    assert_eq!(rt; second.status, 0);
+    assert_eq!(rt; first.out.as_slice(), second.out.as_slice());
+    assert!(rt;
+        first
+            .out
+            .as_slice()
+            .starts_with(b"sessions 1000 ".as_slice())
+    );
     Ok(())
 }

@@ -10,8 +10,9 @@ use Rattle.clap.specs.declared.parser.matches.ArgMatches.{ArgMatches}
 use Rattle.clap.specs.declared.parser.matches.ArgMatches.TheViews.{out-ArgMatches, out-SubCommand}
 use Rattle.clap.specs.declared.parser.matches.SubCommand.{SubCommand}
 use Rattle.clap.specs.Walk.{Row, Text, first_of}
-use Rattle.dp_words.specs.Words.{Address, AreFileWords, Invocation, IsFileWord, IsHostWord, IsInvocation, IsSession, Task, run, talk, engine, ide, replay, show, invocation_of, port_of}
-use Rattle.dp_words.specs.inner.Given.{Given, engine_given, ide_given, replay_given, run_given, show_given, talk_given, requested, bound_given, bound_in, bounded, files_in, first_in, name_in, rows_in, words_in, are_plain_in}
+use Rattle.dp_value.specs.Decimals.{decimal_in}
+use Rattle.dp_words.specs.Words.{Address, AreFileWords, Invocation, IsFileWord, IsHostWord, IsInvocation, IsSession, Task, run, talk, engine, ide, replay, soak, show, invocation_of, port_of, seed_limit, session_count_of}
+use Rattle.dp_words.specs.inner.Given.{Given, engine_given, ide_given, replay_given, run_given, show_given, soak_given, talk_given, requested, bound_given, bound_in, bounded, files_in, first_in, name_in, rows_in, words_in, are_plain_in}
 use Rattle.dp_words.specs.inner.Rows.{AreRows, IsGiven, count_in, program_in}
 use Rattle.dp_words.proofs.Readings.{invoked, named, name_of}
 
@@ -35,6 +36,7 @@ count_said (replay_given None events (f ∷ fs)) = refl
 count_said (replay_given (Some n) events []) = refl
 count_said (replay_given (Some n) events (f ∷ fs)) = refl
 count_said (ide_given port script) = refl
+count_said (soak_given count seed) = refl
 count_said show_given = refl
 
 bound_said : (g : Given) → first_of (codes "bound") (rows_in g) ≡ bound_in g
@@ -55,6 +57,7 @@ bound_said (replay_given None events (f ∷ fs)) = refl
 bound_said (replay_given (Some n) events []) = refl
 bound_said (replay_given (Some n) events (f ∷ fs)) = refl
 bound_said (ide_given port script) = refl
+bound_said (soak_given count seed) = refl
 bound_said show_given = refl
 
 key_of_talk : (bound : Option Text) (key : Text) (files : List Text)
@@ -114,6 +117,7 @@ front_is (engine_given (Some n) host port key files) = refl
 front_is (replay_given None events files) = refl
 front_is (replay_given (Some n) events files) = refl
 front_is (ide_given port script) = refl
+front_is (soak_given count seed) = refl
 front_is show_given = refl
 
 module _ (words : List (String Global)) (name : Text) (rows : List Row) (i : IsGiven (map string_bytes words) name
@@ -244,6 +248,7 @@ module _ (words : List (String Global)) (name : Text) (rows : List Row) (i : IsG
           absurd (omega (arith, differs (codes "run") (engine_given x0 x1 x2 x3 x4) at is))
       by (ide_given x0 x1) at = absurd (omega (arith, differs (codes "run") (ide_given x0 x1) at is))
       by (replay_given x0 x1 x2) at = absurd (omega (arith, differs (codes "run") (replay_given x0 x1 x2) at is))
+      by (soak_given x0 x1) at = absurd (omega (arith, differs (codes "run") (soak_given x0 x1) at is))
       by show_given at = absurd (omega (arith, differs (codes "run") show_given at is))
 
     pub run_none : name ≡ codes "run"
@@ -263,12 +268,14 @@ module _ (words : List (String Global)) (name : Text) (rows : List Row) (i : IsG
         by_task (engine a k asking) asks = omega (arith, clashes (codes "run") (engine a k asking) is asks)
         by_task (ide n s) asks = omega (arith, clashes (codes "run") (ide n s) is asks)
         by_task (replay e asking) asks = omega (arith, clashes (codes "run") (replay e asking) is asks)
+        by_task (soak n d) asks = omega (arith, clashes (codes "run") (soak n d) is asks)
         by_task show asks = omega (arith, clashes (codes "run") show is asks)
       by (talk_given x0 x1 x2) at = absurd (omega (arith, differs (codes "run") (talk_given x0 x1 x2) at is))
       by (engine_given x0 x1 x2 x3 x4) at =
           absurd (omega (arith, differs (codes "run") (engine_given x0 x1 x2 x3 x4) at is))
       by (ide_given x0 x1) at = absurd (omega (arith, differs (codes "run") (ide_given x0 x1) at is))
       by (replay_given x0 x1 x2) at = absurd (omega (arith, differs (codes "run") (replay_given x0 x1 x2) at is))
+      by (soak_given x0 x1) at = absurd (omega (arith, differs (codes "run") (soak_given x0 x1) at is))
       by show_given at = absurd (omega (arith, differs (codes "run") show_given at is))
 
     -- ---- `talk`
@@ -295,6 +302,7 @@ module _ (words : List (String Global)) (name : Text) (rows : List Row) (i : IsG
           absurd (omega (arith, differs (codes "talk") (engine_given x0 x1 x2 x3 x4) at is))
       by (ide_given x0 x1) at = absurd (omega (arith, differs (codes "talk") (ide_given x0 x1) at is))
       by (replay_given x0 x1 x2) at = absurd (omega (arith, differs (codes "talk") (replay_given x0 x1 x2) at is))
+      by (soak_given x0 x1) at = absurd (omega (arith, differs (codes "talk") (soak_given x0 x1) at is))
       by show_given at = absurd (omega (arith, differs (codes "talk") show_given at is))
 
     pub talk_none : name ≡ codes "talk"
@@ -317,12 +325,14 @@ module _ (words : List (String Global)) (name : Text) (rows : List Row) (i : IsG
         by_task (engine a k asking) asks = omega (arith, clashes (codes "talk") (engine a k asking) is asks)
         by_task (ide n s) asks = omega (arith, clashes (codes "talk") (ide n s) is asks)
         by_task (replay e asking) asks = omega (arith, clashes (codes "talk") (replay e asking) is asks)
+        by_task (soak n d) asks = omega (arith, clashes (codes "talk") (soak n d) is asks)
         by_task show asks = omega (arith, clashes (codes "talk") show is asks)
       by (run_given x0 x1) at = absurd (omega (arith, differs (codes "talk") (run_given x0 x1) at is))
       by (engine_given x0 x1 x2 x3 x4) at =
           absurd (omega (arith, differs (codes "talk") (engine_given x0 x1 x2 x3 x4) at is))
       by (ide_given x0 x1) at = absurd (omega (arith, differs (codes "talk") (ide_given x0 x1) at is))
       by (replay_given x0 x1 x2) at = absurd (omega (arith, differs (codes "talk") (replay_given x0 x1 x2) at is))
+      by (soak_given x0 x1) at = absurd (omega (arith, differs (codes "talk") (soak_given x0 x1) at is))
       by show_given at = absurd (omega (arith, differs (codes "talk") show_given at is))
 
     -- ---- `engine`
@@ -361,6 +371,7 @@ module _ (words : List (String Global)) (name : Text) (rows : List Row) (i : IsG
       by (talk_given x0 x1 x2) at = absurd (omega (arith, differs (codes "engine") (talk_given x0 x1 x2) at is))
       by (ide_given x0 x1) at = absurd (omega (arith, differs (codes "engine") (ide_given x0 x1) at is))
       by (replay_given x0 x1 x2) at = absurd (omega (arith, differs (codes "engine") (replay_given x0 x1 x2) at is))
+      by (soak_given x0 x1) at = absurd (omega (arith, differs (codes "engine") (soak_given x0 x1) at is))
       by show_given at = absurd (omega (arith, differs (codes "engine") show_given at is))
 
     pub engine_none : name ≡ codes "engine"
@@ -393,11 +404,13 @@ module _ (words : List (String Global)) (name : Text) (rows : List Row) (i : IsG
         by_task (talk k asking) asks = omega (arith, clashes (codes "engine") (talk k asking) is asks)
         by_task (ide n s) asks = omega (arith, clashes (codes "engine") (ide n s) is asks)
         by_task (replay e asking) asks = omega (arith, clashes (codes "engine") (replay e asking) is asks)
+        by_task (soak n d) asks = omega (arith, clashes (codes "engine") (soak n d) is asks)
         by_task show asks = omega (arith, clashes (codes "engine") show is asks)
       by (run_given x0 x1) at = absurd (omega (arith, differs (codes "engine") (run_given x0 x1) at is))
       by (talk_given x0 x1 x2) at = absurd (omega (arith, differs (codes "engine") (talk_given x0 x1 x2) at is))
       by (ide_given x0 x1) at = absurd (omega (arith, differs (codes "engine") (ide_given x0 x1) at is))
       by (replay_given x0 x1 x2) at = absurd (omega (arith, differs (codes "engine") (replay_given x0 x1 x2) at is))
+      by (soak_given x0 x1) at = absurd (omega (arith, differs (codes "engine") (soak_given x0 x1) at is))
       by show_given at = absurd (omega (arith, differs (codes "engine") show_given at is))
 
     -- ---- `ide`
@@ -426,6 +439,7 @@ module _ (words : List (String Global)) (name : Text) (rows : List Row) (i : IsG
       by (engine_given x0 x1 x2 x3 x4) at =
           absurd (omega (arith, differs (codes "ide") (engine_given x0 x1 x2 x3 x4) at is))
       by (replay_given x0 x1 x2) at = absurd (omega (arith, differs (codes "ide") (replay_given x0 x1 x2) at is))
+      by (soak_given x0 x1) at = absurd (omega (arith, differs (codes "ide") (soak_given x0 x1) at is))
       by show_given at = absurd (omega (arith, differs (codes "ide") show_given at is))
 
     pub ide_none : name ≡ codes "ide"
@@ -452,12 +466,14 @@ module _ (words : List (String Global)) (name : Text) (rows : List Row) (i : IsG
         by_task (talk k asking) asks = omega (arith, clashes (codes "ide") (talk k asking) is asks)
         by_task (engine a k asking) asks = omega (arith, clashes (codes "ide") (engine a k asking) is asks)
         by_task (replay e asking) asks = omega (arith, clashes (codes "ide") (replay e asking) is asks)
+        by_task (soak n d) asks = omega (arith, clashes (codes "ide") (soak n d) is asks)
         by_task show asks = omega (arith, clashes (codes "ide") show is asks)
       by (run_given x0 x1) at = absurd (omega (arith, differs (codes "ide") (run_given x0 x1) at is))
       by (talk_given x0 x1 x2) at = absurd (omega (arith, differs (codes "ide") (talk_given x0 x1 x2) at is))
       by (engine_given x0 x1 x2 x3 x4) at =
           absurd (omega (arith, differs (codes "ide") (engine_given x0 x1 x2 x3 x4) at is))
       by (replay_given x0 x1 x2) at = absurd (omega (arith, differs (codes "ide") (replay_given x0 x1 x2) at is))
+      by (soak_given x0 x1) at = absurd (omega (arith, differs (codes "ide") (soak_given x0 x1) at is))
       by show_given at = absurd (omega (arith, differs (codes "ide") show_given at is))
 
     -- ---- `replay`
@@ -487,6 +503,7 @@ module _ (words : List (String Global)) (name : Text) (rows : List Row) (i : IsG
       by (engine_given x0 x1 x2 x3 x4) at =
           absurd (omega (arith, differs (codes "replay") (engine_given x0 x1 x2 x3 x4) at is))
       by (ide_given x0 x1) at = absurd (omega (arith, differs (codes "replay") (ide_given x0 x1) at is))
+      by (soak_given x0 x1) at = absurd (omega (arith, differs (codes "replay") (soak_given x0 x1) at is))
       by show_given at = absurd (omega (arith, differs (codes "replay") show_given at is))
 
     pub replay_none : name ≡ codes "replay"
@@ -510,19 +527,83 @@ module _ (words : List (String Global)) (name : Text) (rows : List Row) (i : IsG
         by_task (talk k asking) asks = omega (arith, clashes (codes "replay") (talk k asking) is asks)
         by_task (engine a k asking) asks = omega (arith, clashes (codes "replay") (engine a k asking) is asks)
         by_task (ide n s) asks = omega (arith, clashes (codes "replay") (ide n s) is asks)
+        by_task (soak n d) asks = omega (arith, clashes (codes "replay") (soak n d) is asks)
         by_task show asks = omega (arith, clashes (codes "replay") show is asks)
       by (run_given x0 x1) at = absurd (omega (arith, differs (codes "replay") (run_given x0 x1) at is))
       by (talk_given x0 x1 x2) at = absurd (omega (arith, differs (codes "replay") (talk_given x0 x1 x2) at is))
       by (engine_given x0 x1 x2 x3 x4) at =
           absurd (omega (arith, differs (codes "replay") (engine_given x0 x1 x2 x3 x4) at is))
       by (ide_given x0 x1) at = absurd (omega (arith, differs (codes "replay") (ide_given x0 x1) at is))
+      by (soak_given x0 x1) at = absurd (omega (arith, differs (codes "replay") (soak_given x0 x1) at is))
       by show_given at = absurd (omega (arith, differs (codes "replay") show_given at is))
+
+    -- ---- `soak`
+
+    pub soak_found : name ≡ codes "soak" → (count seed : ℕ)
+        → option_and_then session_count_of (first_of (codes "N") rows) ≡ Some count
+        → option_and_then (decimal_in seed_limit) (first_of (codes "SEED") rows) ≡ Some seed
+        → IsInvocation all (soak count seed)
+    soak_found is count seed count_is seed_is = by i.given refl where
+      by : (g : Given) → i.given ≡ g → IsInvocation all (soak count seed)
+      by (soak_given n d) at =
+          let g = soak_given n d in
+          record {
+            number = n;
+            drawn = d;
+            words_are = words_at g at;
+            is_count = sym (ap (λ (o : Option Text). option_and_then session_count_of o)
+                (ap (first_of (codes "N")) (rows_at g at))) ∙ count_is;
+            is_seed = sym (ap (λ (o : Option Text). option_and_then (decimal_in seed_limit) o)
+                (ap (first_of (codes "SEED")) (rows_at g at))) ∙ seed_is;
+          }
+      by (run_given x0 x1) at = absurd (omega (arith, differs (codes "soak") (run_given x0 x1) at is))
+      by (talk_given x0 x1 x2) at = absurd (omega (arith, differs (codes "soak") (talk_given x0 x1 x2) at is))
+      by (engine_given x0 x1 x2 x3 x4) at =
+          absurd (omega (arith, differs (codes "soak") (engine_given x0 x1 x2 x3 x4) at is))
+      by (ide_given x0 x1) at = absurd (omega (arith, differs (codes "soak") (ide_given x0 x1) at is))
+      by (replay_given x0 x1 x2) at = absurd (omega (arith, differs (codes "soak") (replay_given x0 x1 x2) at is))
+      by show_given at = absurd (omega (arith, differs (codes "soak") show_given at is))
+
+    pub soak_none : name ≡ codes "soak"
+        → ((number drawn : Text) (count seed : ℕ) → first_of (codes "N") rows ≡ Some number
+        → first_of (codes "SEED") rows ≡ Some drawn → session_count_of number ≡ Some count
+        → decimal_in seed_limit drawn ≡ Some seed → ⊥)
+        → (task : Task) → IsInvocation all task → ⊥
+    soak_none is none = by i.given refl where
+      by : (g : Given) → i.given ≡ g → (task : Task) → IsInvocation all task → ⊥
+      by (soak_given n d) at = by_task where
+        g : Given
+        g = soak_given n d
+
+        by_task : (task : Task) → IsInvocation all task → ⊥
+        by_task (soak count seed) asks =
+            let same = behind_is all (n ∷ d ∷ []) (asks.number ∷ asks.drawn ∷ []) (codes "soak") (words_at g at)
+            asks.words_are
+            in
+            none n d count seed (ap (first_of (codes "N")) (rows_at g at)) (ap (first_of (codes "SEED")) (rows_at g
+            at))
+            (ap (λ (l : List Text). session_count_of (get_or l 0 [])) same ∙ asks.is_count)
+            (ap (λ (l : List Text). decimal_in seed_limit (get_or l 1 [])) same ∙ asks.is_seed)
+        by_task (run asking) asks = omega (arith, clashes (codes "soak") (run asking) is asks)
+        by_task (talk k asking) asks = omega (arith, clashes (codes "soak") (talk k asking) is asks)
+        by_task (engine a k asking) asks = omega (arith, clashes (codes "soak") (engine a k asking) is asks)
+        by_task (ide n s) asks = omega (arith, clashes (codes "soak") (ide n s) is asks)
+        by_task (replay e asking) asks = omega (arith, clashes (codes "soak") (replay e asking) is asks)
+        by_task show asks = omega (arith, clashes (codes "soak") show is asks)
+      by (run_given x0 x1) at = absurd (omega (arith, differs (codes "soak") (run_given x0 x1) at is))
+      by (talk_given x0 x1 x2) at = absurd (omega (arith, differs (codes "soak") (talk_given x0 x1 x2) at is))
+      by (engine_given x0 x1 x2 x3 x4) at =
+          absurd (omega (arith, differs (codes "soak") (engine_given x0 x1 x2 x3 x4) at is))
+      by (ide_given x0 x1) at = absurd (omega (arith, differs (codes "soak") (ide_given x0 x1) at is))
+      by (replay_given x0 x1 x2) at = absurd (omega (arith, differs (codes "soak") (replay_given x0 x1 x2) at is))
+      by show_given at = absurd (omega (arith, differs (codes "soak") show_given at is))
 
     -- ---- `show`: no other name is left
 
     pub show_found : (name ≡ codes "run" → ⊥) → (name ≡ codes "talk" → ⊥) → (name ≡ codes "engine" → ⊥)
-        → (name ≡ codes "ide" → ⊥) → (name ≡ codes "replay" → ⊥) → IsInvocation all show
-    show_found a b c d e = by i.given refl where
+        → (name ≡ codes "ide" → ⊥) → (name ≡ codes "replay" → ⊥) → (name ≡ codes "soak" → ⊥)
+        → IsInvocation all show
+    show_found a b c d e f = by i.given refl where
       by : (g : Given) → i.given ≡ g → IsInvocation all show
       by show_given at = words_at show_given at
       by (run_given bound files) at = absurd (a (i.name_is ∙ ap name_in at))
@@ -530,6 +611,7 @@ module _ (words : List (String Global)) (name : Text) (rows : List Row) (i : IsG
       by (engine_given bound host port key files) at = absurd (c (i.name_is ∙ ap name_in at))
       by (ide_given port script) at = absurd (d (i.name_is ∙ ap name_in at))
       by (replay_given bound events files) at = absurd (e (i.name_is ∙ ap name_in at))
+      by (soak_given count seed) at = absurd (f (i.name_is ∙ ap name_in at))
 
 -- ---- the matches of the whole
 

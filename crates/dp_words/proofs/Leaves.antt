@@ -15,7 +15,7 @@ use Rattle.clap.specs.Walk.{Held, Row, Rule, Text, Waiting, Walk, Step, idle, op
 use Rattle.clap.proofs.OnLiterals.{clap_on_literals}
 use Rattle.dp_words.specs.Plain.{is_plain}
 use Rattle.dp_words.specs.inner.Given.{bound_rows, bounded, row, word_rows}
-use Rattle.dp_words.specs.inner.Shapes.{engine_words, ide_words, plain_row, program_row, replay_words, talk_words, top}
+use Rattle.dp_words.specs.inner.Shapes.{engine_words, ide_words, plain_row, program_row, replay_words, soak_words, talk_words, top}
 
 -- ---- words that are plain
 
@@ -556,6 +556,34 @@ unfolding defaults_fault
 ide_lacks_1 name p hp =
     level (I name) (p ∷ []) _ wanting (pass_idle (I name) 1 _ _ p _ hp refl refl _ _ (passed (I name) _)) refl
 
+-- ---- `soak`
+
+abbrev pub S : Text → Shape
+S name = leaf (plain_row name soak_words)
+
+pub soak_read : (name n s : Text) → is_plain n ≡ true → is_plain s ≡ true
+    → Passes (S name) (begun None) (n ∷ s ∷ [])
+    (at 3 (word_rows soak_words (n ∷ [])) (Some (codes "SEED", s ∷ [])) idle)
+soak_read name n s hn hs =
+    pass_idle (S name) 1 _ _ n _ hn refl refl _ _ (pass_idle (S name) 2 _ _ s _ hs refl refl _ _ (passed (S name) _))
+
+pub soak_fine : (name n s : Text) → is_plain n ≡ true → is_plain s ≡ true → fault (S name) (n ∷ s ∷ []) ≡ []
+unfolding defaults_fault
+soak_fine name n s hn hs = level (S name) (n ∷ s ∷ []) _ [] (soak_read name n s hn hs) refl
+
+pub soak_found : (name n s : Text) → is_plain n ≡ true → is_plain s ≡ true
+    → rows_after (S name).rules [] (n ∷ s ∷ []) ≡ word_rows soak_words (n ∷ s ∷ [])
+soak_found name n s hn hs = rows_at_end (S name) (n ∷ s ∷ []) _ (soak_read name n s hn hs)
+
+pub soak_lacks_2 : (name : Text) → fault (S name) [] ≡ wanting
+unfolding defaults_fault
+soak_lacks_2 name = level (S name) [] _ wanting (passed (S name) _) refl
+
+pub soak_lacks_1 : (name n : Text) → is_plain n ≡ true → fault (S name) (n ∷ []) ≡ wanting
+unfolding defaults_fault
+soak_lacks_1 name n hn =
+    level (S name) (n ∷ []) _ wanting (pass_idle (S name) 1 _ _ n _ hn refl refl _ _ (passed (S name) _)) refl
+
 -- ---- one word too many
 
 abbrev pub HasFault : Kinds → Type 0
@@ -600,6 +628,17 @@ ide_over name p s v vs hp hs hv =
     (ide_read name p s hp hs))))
     (refused (turn_fault (I name) [] end v) (walk_fault (I name) [] (walked (I name).rules [] end v) vs) tail
     (stray (I name) 3 _ _ v hv tt))
+
+pub soak_over : (name n s v : Text) (vs : List Text) → is_plain n ≡ true → is_plain s ≡ true → is_plain v ≡ true
+    → HasFault (fault (S name) (n ∷ s ∷ v ∷ vs))
+unfolding walk_fault
+soak_over name n s v vs hn hs hv =
+    let end = at 3 (word_rows soak_words (n ∷ [])) (Some (codes "SEED", s ∷ [])) idle in
+    let tail = tail_fault (S name) (walk (S name).rules [] nothing_held (n ∷ s ∷ v ∷ vs)).held in
+    subst HasFault (sym (ap (λ (k : Kinds). or_else k tail) (pass_then (S name) (begun None) (n ∷ s ∷ []) (v ∷ vs) end
+    (soak_read name n s hn hs))))
+    (refused (turn_fault (S name) [] end v) (walk_fault (S name) [] (walked (S name).rules [] end v) vs) tail
+    (stray (S name) 3 _ _ v hv tt))
 
 -- ---- `show`
 

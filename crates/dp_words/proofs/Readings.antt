@@ -11,13 +11,13 @@ use Rattle.clap.specs.Faults.{fault_of}
 use Rattle.clap.specs.Simple.{Shape, subcommand_of}
 use Rattle.clap.specs.Walk.{Row, Text, answers_to}
 use Rattle.dp_outside.specs.Names.{IsKey}
-use Rattle.dp_words.specs.Words.{Invocation, IsInvocation, Task, IsFileWord, run, talk, engine, ide, replay, show, invocation_of, bound_limit, bound_of, default_bound, is_option, not_zero, port_limit, port_of, with_bound}
+use Rattle.dp_words.specs.Words.{Invocation, IsInvocation, Task, IsFileWord, run, talk, engine, ide, replay, soak, show, invocation_of, bound_limit, bound_of, default_bound, is_option, not_zero, port_limit, port_of, seed_limit, session_count_of, soak_limit, with_bound}
 use Rattle.dp_value.specs.Decimals.{decimal_in}
 use Rattle.dp_words.specs.Plain.{are_bounded, are_plain, has_bound, is_plain}
-use Rattle.dp_words.specs.inner.Given.{Given, engine_given, ide_given, replay_given, run_given, show_given, talk_given, are_plain_in, requested, bound_given, bounded, name_in, row, rows_in, words_in}
+use Rattle.dp_words.specs.inner.Given.{Given, engine_given, ide_given, replay_given, run_given, show_given, soak_given, talk_given, are_plain_in, requested, bound_given, bounded, name_in, row, rows_in, words_in}
 use Rattle.dp_words.specs.inner.Shapes.{engine_words, program, replay_words, talk_words}
-use Rattle.dp_words.proofs.Leaves.{HasFault, I, P, TakesFiles, alone, begun, both, engine_lacks_1, engine_lacks_2, engine_lacks_3, engine_lacks_4, engine_read, engine_rows, engine_takes, fault, few, files, ide_fine, ide_found, ide_lacks_1, ide_lacks_2, ide_over, is_plain_bound, level, many, pass_bound, Passes, replay_lacks_1, replay_lacks_2, replay_read, replay_rows, replay_takes, rows_at_end, run_lacks_1, run_read, run_rows, run_takes, show_fine, show_over, talk_lacks_1, talk_lacks_2, talk_read, talk_rows, talk_takes, too_many, wanting}
-use Rattle.dp_words.proofs.Programs.{Known, fault_known, rows_known, run_known, talk_known, engine_known, ide_known, replay_known, show_known, names, no_words, unknown}
+use Rattle.dp_words.proofs.Leaves.{HasFault, I, P, S, TakesFiles, alone, begun, both, engine_lacks_1, engine_lacks_2, engine_lacks_3, engine_lacks_4, engine_read, engine_rows, engine_takes, fault, few, files, ide_fine, ide_found, ide_lacks_1, ide_lacks_2, ide_over, is_plain_bound, level, many, pass_bound, Passes, replay_lacks_1, replay_lacks_2, replay_read, replay_rows, replay_takes, rows_at_end, run_lacks_1, run_read, run_rows, run_takes, show_fine, show_over, soak_fine, soak_found, soak_lacks_1, soak_lacks_2, soak_over, talk_lacks_1, talk_lacks_2, talk_read, talk_rows, talk_takes, too_many, wanting}
+use Rattle.dp_words.proofs.Programs.{Known, fault_known, rows_known, run_known, talk_known, engine_known, ide_known, replay_known, soak_known, show_known, names, no_words, unknown}
 
 -- ---- what tasks want
 
@@ -27,6 +27,7 @@ name_of (talk key ask) = codes "talk"
 name_of (engine address key ask) = codes "engine"
 name_of (ide port script) = codes "ide"
 name_of (replay events ask) = codes "replay"
+name_of (soak count seed) = codes "soak"
 name_of show = codes "show"
 
 -- the first of the words names the task
@@ -37,6 +38,7 @@ named words (talk key ask) h = (h.behind, h.words_are)
 named words (engine address key ask) h = (h.behind, h.words_are)
 named words (ide port script) h = (h.number ∷ script ∷ [], h.words_are)
 named words (replay events ask) h = (h.behind, h.words_are)
+named words (soak count seed) h = (h.number ∷ h.drawn ∷ [], h.words_are)
 named words show h = ([], h)
 
 -- the name and the words behind it
@@ -92,6 +94,7 @@ counted_for (replay events ask) words h b =
       few = omega (arith, f.few);
     }
 counted_for (ide port script) words h b = absurd cc
+counted_for (soak count seed) words h b = absurd cc
 counted_for show words h b = absurd cc
 
 counted : (name : Text) (behind : List Text) (task : Task) → has_bound name ≡ true → IsInvocation (name ∷ behind) task
@@ -340,43 +343,39 @@ replay_reads bound (e ∷ f ∷ fs) hb hs =
 
 -- ---- the other commands
 
--- a name that is no other command's
-is_name : (name other : Text) → name ≡ other → bytes_eq other name ≡ true
-is_name name other e = (bytes_eq-Decides other name).1 (sym e)
+-- how many words stand behind a command that has no files of a program
+abbrev plain_count : Text → ℕ
+plain_count name =
+    if bytes_eq name (codes "ide") then 2 else (if bytes_eq name (codes "soak") then 2 else 0)
 
-behind_ide : (task : Task) (words : List Text) (h : IsInvocation words task) → codes "ide" ≡ name_of task
-    → length (named words task h).0 ≡ 2
-behind_ide (ide port script) words h e = refl
-behind_ide (run ask) words h e = let t : false ≡ true = is_name (codes "ide") _ e in absurd cc
-behind_ide (talk key ask) words h e = let t : false ≡ true = is_name (codes "ide") _ e in absurd cc
-behind_ide (engine address key ask) words h e = let t : false ≡ true = is_name (codes "ide") _ e in absurd cc
-behind_ide (replay events ask) words h e = let t : false ≡ true = is_name (codes "ide") _ e in absurd cc
-behind_ide show words h e = let t : false ≡ true = is_name (codes "ide") _ e in absurd cc
+plain_behind : (task : Task) (words : List Text) (h : IsInvocation words task) → has_bound (name_of task) ≡ false
+    → length (named words task h).0 ≡ plain_count (name_of task)
+plain_behind (run ask) words h e = absurd cc
+plain_behind (talk key ask) words h e = absurd cc
+plain_behind (engine address key ask) words h e = absurd cc
+plain_behind (ide port script) words h e = refl
+plain_behind (replay events ask) words h e = absurd cc
+plain_behind (soak count seed) words h e = refl
+plain_behind show words h e = refl
 
-behind_show : (task : Task) (words : List Text) (h : IsInvocation words task) → codes "show" ≡ name_of task
-    → length (named words task h).0 ≡ 0
-behind_show show words h e = refl
-behind_show (run ask) words h e = let t : false ≡ true = is_name (codes "show") _ e in absurd cc
-behind_show (talk key ask) words h e = let t : false ≡ true = is_name (codes "show") _ e in absurd cc
-behind_show (engine address key ask) words h e = let t : false ≡ true = is_name (codes "show") _ e in absurd cc
-behind_show (ide port script) words h e = let t : false ≡ true = is_name (codes "show") _ e in absurd cc
-behind_show (replay events ask) words h e = let t : false ≡ true = is_name (codes "show") _ e in absurd cc
-
-not_two : (behind : List Text) → (length behind ≡ 2 → ⊥) → (task : Task)
-    → IsInvocation (codes "ide" ∷ behind) task → ⊥
-not_two behind not_so task asks =
-    not_so (ap (λ (l : List Text). length l) (same_behind (codes "ide") behind task asks)
-    ∙ behind_ide task (codes "ide" ∷ behind) asks (same_name (codes "ide") behind task asks))
+-- no task is asked for by another number of words
+other_count : (name : Text) (behind : List Text) → has_bound name ≡ false → (length behind ≡ plain_count name → ⊥)
+    → (task : Task) → IsInvocation (name ∷ behind) task → ⊥
+other_count name behind none not_so task asks =
+    let is = same_name name behind task asks in
+    not_so (ap (λ (l : List Text). length l) (same_behind name behind task asks)
+    ∙ plain_behind task (name ∷ behind) asks (subst (λ (n : Text). has_bound n ≡ false) is none)
+    ∙ ap plain_count (sym is))
 
 ide_reads : (behind : List Text) → list_all is_plain behind ≡ true → Reading (codes "ide" ∷ behind)
 ide_reads [] h = inr (
   faulty (codes "ide") (I (codes "ide")) ide_known [] wanting tt (ide_lacks_2 (codes "ide")),
-  not_two [] (λ e. omega (arith, e)),
+  other_count (codes "ide") [] refl (λ e. omega (arith, e)),
 )
 ide_reads (p ∷ []) h = inr (
   faulty (codes "ide") (I (codes "ide")) ide_known (p ∷ []) wanting tt
       (ide_lacks_1 (codes "ide") p (both (is_plain p) true h).0),
-  not_two (p ∷ []) (λ e. omega (arith, e)),
+  other_count (codes "ide") (p ∷ []) refl (λ e. omega (arith, e)),
 )
 ide_reads (p ∷ s ∷ []) h =
     let q = both (is_plain p) (list_all is_plain (s ∷ [])) h in
@@ -385,7 +384,8 @@ ide_reads (p ∷ s ∷ []) h =
       given = ide_given p s;
       words_are = refl;
       plain = h;
-      fine = fine_known (codes "ide") (I (codes "ide")) ide_known (p ∷ s ∷ []) (ide_fine (codes "ide") p s q.0 hs);
+      fine = fine_known (codes "ide") (I (codes "ide")) ide_known (p ∷ s ∷ [])
+          (ide_fine (codes "ide") p s q.0 hs);
       rows = rows_known (codes "ide") (I (codes "ide")) ide_known (p ∷ s ∷ [])
           ∙ ap (λ (r : List Row). Some (codes "ide", r)) (ide_found (codes "ide") p s q.0 hs);
     })
@@ -394,9 +394,41 @@ ide_reads (p ∷ s ∷ v ∷ vs) h =
     let r = both (is_plain s) (list_all is_plain (v ∷ vs)) q.1 in
     let t = both (is_plain v) (list_all is_plain vs) r.1 in
     inr (
-      faulty_so (codes "ide") (I (codes "ide")) ide_known (p ∷ s ∷ v ∷ vs) (ide_over (codes "ide") p s v vs q.0 r.0
-          t.0),
-      not_two (p ∷ s ∷ v ∷ vs) (λ e. omega (arith, e)),
+      faulty_so (codes "ide") (I (codes "ide")) ide_known (p ∷ s ∷ v ∷ vs)
+          (ide_over (codes "ide") p s v vs q.0 r.0 t.0),
+      other_count (codes "ide") (p ∷ s ∷ v ∷ vs) refl (λ e. omega (arith, e)),
+    )
+
+soak_reads : (behind : List Text) → list_all is_plain behind ≡ true → Reading (codes "soak" ∷ behind)
+soak_reads [] h = inr (
+  faulty (codes "soak") (S (codes "soak")) soak_known [] wanting tt (soak_lacks_2 (codes "soak")),
+  other_count (codes "soak") [] refl (λ e. omega (arith, e)),
+)
+soak_reads (p ∷ []) h = inr (
+  faulty (codes "soak") (S (codes "soak")) soak_known (p ∷ []) wanting tt
+      (soak_lacks_1 (codes "soak") p (both (is_plain p) true h).0),
+  other_count (codes "soak") (p ∷ []) refl (λ e. omega (arith, e)),
+)
+soak_reads (p ∷ s ∷ []) h =
+    let q = both (is_plain p) (list_all is_plain (s ∷ [])) h in
+    let hs = (both (is_plain s) true q.1).0 in
+    inl (record {
+      given = soak_given p s;
+      words_are = refl;
+      plain = h;
+      fine = fine_known (codes "soak") (S (codes "soak")) soak_known (p ∷ s ∷ [])
+          (soak_fine (codes "soak") p s q.0 hs);
+      rows = rows_known (codes "soak") (S (codes "soak")) soak_known (p ∷ s ∷ [])
+          ∙ ap (λ (r : List Row). Some (codes "soak", r)) (soak_found (codes "soak") p s q.0 hs);
+    })
+soak_reads (p ∷ s ∷ v ∷ vs) h =
+    let q = both (is_plain p) (list_all is_plain (s ∷ v ∷ vs)) h in
+    let r = both (is_plain s) (list_all is_plain (v ∷ vs)) q.1 in
+    let t = both (is_plain v) (list_all is_plain vs) r.1 in
+    inr (
+      faulty_so (codes "soak") (S (codes "soak")) soak_known (p ∷ s ∷ v ∷ vs)
+          (soak_over (codes "soak") p s v vs q.0 r.0 t.0),
+      other_count (codes "soak") (p ∷ s ∷ v ∷ vs) refl (λ e. omega (arith, e)),
     )
 
 show_reads : (behind : List Text) → list_all is_plain behind ≡ true → Reading (codes "show" ∷ behind)
@@ -410,11 +442,7 @@ show_reads [] h = inl (record {
 show_reads (v ∷ vs) h = inr (
   faulty_so (codes "show") (alone (codes "show")) show_known (v ∷ vs)
       (show_over (codes "show") v vs (both (is_plain v) (list_all is_plain vs) h).0),
-  λ task asks.
-      let none : length (v ∷ vs) ≡ 0 = ap (λ (l : List Text). length l) (same_behind (codes "show") (v ∷ vs) task
-      asks)
-      ∙ behind_show task (codes "show" ∷ v ∷ vs) asks (same_name (codes "show") (v ∷ vs) task asks) in
-      absurd (omega (arith, none)),
+  other_count (codes "show") (v ∷ vs) refl (λ e. omega (arith, e)),
 )
 
 no_command : (task : Task) → find (answers_to (name_of task)) names ≡ None → ⊥
@@ -423,6 +451,7 @@ no_command (talk key ask) e = absurd cc
 no_command (engine address key ask) e = absurd cc
 no_command (ide port script) e = absurd cc
 no_command (replay events ask) e = absurd cc
+no_command (soak count seed) e = absurd cc
 no_command show e = absurd cc
 
 -- a bound and the words behind it
@@ -471,12 +500,12 @@ abbrev label : Text → Text × List Text
 label name = (name, [])
 
 -- the command that is found, by which names it has
-abbrev found_by : Bool → Bool → Bool → Bool → Bool → Bool → Option (Text × List Text)
-found_by a b c d e f =
+abbrev found_by : Bool → Bool → Bool → Bool → Bool → Bool → Bool → Option (Text × List Text)
+found_by a b c d e f g =
     if a || false then Some (label (codes "run")) else (if b || false then Some (label (codes "talk"))
     else (if c || false then Some (label (codes "engine")) else (if d || false then Some (label (codes "ide"))
-    else (if e
-    || false then Some (label (codes "replay")) else (if f || false then Some (label (codes "show")) else None)))))
+    else (if e || false then Some (label (codes "replay")) else (if f || false then Some (label (codes "soak"))
+    else (if g || false then Some (label (codes "show")) else None))))))
 
 abbrev fits : Text → List Text → Type 0
 fits name behind = (if has_bound name then are_bounded behind else list_all is_plain behind) ≡ true
@@ -512,16 +541,18 @@ reads (name ∷ behind) h =
     choose (codes "replay") name
     (λ e. subst (λ n. fits n behind → Reading (n ∷ behind)) e
     (λ f. split_reads (codes "replay") behind f replay_reads) parts.1) (λ no_replay.
+    choose (codes "soak") name
+    (λ e. subst (λ n. fits n behind → Reading (n ∷ behind)) e (λ f. soak_reads behind f) parts.1) (λ no_soak.
     choose (codes "show") name
     (λ e. subst (λ n. fits n behind → Reading (n ∷ behind)) e (λ f. show_reads behind f) parts.1) (λ no_show_name.
     let none : find (answers_to name) names ≡ None = λ i. found_by (no_run i) (no_talk i) (no_engine i)
     (no_ide_name i)
-    (no_replay i) (no_show_name i) in
+    (no_replay i) (no_soak i) (no_show_name i) in
     inr (
       subst HasFault (sym (unknown name behind parts.0 none)) tt,
       λ task asks. no_command task (subst (λ (n : Text). find (answers_to n) names ≡ None)
           (same_name name behind task asks) none),
-    )))))))
+    ))))))))
 
 -- ---- words that ask for something are plain
 
@@ -547,6 +578,12 @@ port_plain word n e = by (decimal_in port_limit word) refl e where
   by : (o : Option ℕ) → decimal_in port_limit word ≡ o → not_zero o ≡ Some n → is_plain word ≡ true
   by None is no_port = absurd cc
   by (Some m) is some = number_plain port_limit m word is
+
+count_plain : (word : Text) (n : ℕ) → session_count_of word ≡ Some n → is_plain word ≡ true
+count_plain word n e = by (decimal_in soak_limit word) refl e where
+  by : (o : Option ℕ) → decimal_in soak_limit word ≡ o → not_zero o ≡ Some n → is_plain word ≡ true
+  by None is no_count = absurd cc
+  by (Some m) is some = number_plain soak_limit m word is
 
 plain_if : (word : Text) → 1 ≤ length word → is_option word ≡ false → is_plain word ≡ true
 plain_if [] some none = absurd (omega (arith, some))
@@ -626,6 +663,7 @@ asks_behind (replay events ask) words h b =
     (more_plain events ask.names (plain_if events h.replays.is_events.is_name.some h.replays.is_events.is_none)
     (files_plain ask.names h.replays.files.named))
 asks_behind (ide port script) words h b = absurd cc
+asks_behind (soak count seed) words h b = absurd cc
 asks_behind show words h b = absurd cc
 
 pub asks_plain : (words : List Text) (task : Task) → IsInvocation words task → are_plain words ≡ true
@@ -638,4 +676,8 @@ asks_plain words (ide port script) h =
     ∙ more_plain h.number (script ∷ []) (port_plain h.number port h.is_port)
     (more_plain script [] (plain_if script h.is_script.is_name.some h.is_script.is_none) refl)
 asks_plain words (replay events ask) h = ap are_plain h.words_are ∙ asks_behind (replay events ask) words h refl
+asks_plain words (soak count seed) h =
+    ap are_plain h.words_are
+    ∙ more_plain h.number (h.drawn ∷ []) (count_plain h.number count h.is_count)
+    (more_plain h.drawn [] (number_plain seed_limit seed h.drawn h.is_seed) refl)
 asks_plain words show h = ap are_plain h

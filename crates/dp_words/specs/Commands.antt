@@ -4,7 +4,7 @@ use Rattle.dp_words.specs.declared.words.Address.{Address as CodeAddress}
 use Rattle.dp_words.specs.declared.words.Command.{Command}
 use Rattle.dp_words.specs.declared.words.Program.{Program}
 use Rattle.dp_words.specs.declared.words.Command.TheVariants as told
-use Rattle.dp_words.specs.Words.{Address, Invocation, Task, run, talk, engine, ide, replay, show}
+use Rattle.dp_words.specs.Words.{Address, Invocation, Task, run, talk, engine, ide, replay, soak, show}
 
 -- a program that is asked for
 abbrev pub invocation_seen : Program → Invocation
@@ -24,4 +24,5 @@ task_of (told.Engine request) =
     (invocation_seen request.talk.program)
 task_of (told.Ide request) = ide request.port request.script.now
 task_of (told.Replay request) = replay request.events.now (invocation_seen request.program)
+task_of (told.Soak request) = soak request.count request.seed
 task_of told.Show = show

@@ -157,6 +157,25 @@ pub record IsReplay (words : List (List ℕ)) (events : List ℕ) (ask : Invocat
   pub words_are : words ≡ codes "replay" ∷ behind
   pub replays : ReplayWords behind events ask
 
+-- the most sessions that a soak may have, and the greatest seed: 2^64 - 1
+abbrev pub soak_limit : ℕ
+soak_limit = 10000
+
+abbrev pub seed_limit : ℕ
+seed_limit = 18446744073709551615
+
+-- how many sessions a word asks for: a decimal from 1 to the most
+abbrev pub session_count_of : List ℕ → Option ℕ
+session_count_of word = not_zero (decimal_in soak_limit word)
+
+-- the words are `soak N SEED`
+pub record IsSoak (words : List (List ℕ)) (count seed : ℕ) : Type 0 where
+  pub number : List ℕ
+  pub drawn : List ℕ
+  pub words_are : words ≡ codes "soak" ∷ number ∷ drawn ∷ []
+  pub is_count : session_count_of number ≡ Some count
+  pub is_seed : decimal_in seed_limit drawn ≡ Some seed
+
 -- ---- what is asked for
 
 pub data Task : Type 0 where
@@ -165,6 +184,7 @@ pub data Task : Type 0 where
   engine : Address → (key : List ℕ) → Invocation → Task
   ide : (port : ℕ) → (script : List ℕ) → Task
   replay : (events : List ℕ) → Invocation → Task
+  soak : (count seed : ℕ) → Task
   show : Task
 
 -- the words ask for this
@@ -174,6 +194,7 @@ IsInvocation words (talk key ask) = IsTalk words key ask
 IsInvocation words (engine address key ask) = IsEngine words address key ask
 IsInvocation words (ide port script) = IsIde words port script
 IsInvocation words (replay events ask) = IsReplay words events ask
+IsInvocation words (soak count seed) = IsSoak words count seed
 IsInvocation words show = words ≡ codes "show" ∷ []
 
 -- the program that all its files make, where they are those of one
@@ -183,6 +204,7 @@ invocation_in (talk key ask) = Some ask
 invocation_in (engine address key ask) = Some ask
 invocation_in (ide port script) = None
 invocation_in (replay events ask) = None
+invocation_in (soak count seed) = None
 invocation_in show = None
 
 abbrev pub requested_names : Option Invocation → List (List ℕ)
@@ -194,6 +216,12 @@ abbrev pub files_in : Task → List (List ℕ)
 files_in (ide port script) = script ∷ []
 files_in (replay events ask) = events ∷ ask.names
 files_in task = requested_names (invocation_in task)
+
+-- whether files are fetched for it
+abbrev pub uses_shelf : Task → Bool
+uses_shelf (soak count seed) = false
+uses_shelf show = false
+uses_shelf task = true
 
 -- whether it is done over the network
 abbrev pub uses_net : Task → Bool

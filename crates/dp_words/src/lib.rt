@@ -7,4 +7,6 @@ mod plain;
 mod words;
 
 pub use dp_value::Memory;
-pub use words::{Address, Command, Engine, Ide, Program, Replay, Talk, read_words};
+pub use words::{
+    Address, Command, DEFAULT_BOUND, Engine, Ide, Program, Replay, Soak, Talk, read_words,
+};

@@ -96,6 +96,15 @@ fn replay<'a>(alloc: Global) -> Result<Command<'a>, AllocError>
         .arg(files(alloc))
 }
 
+/// `soak N SEED`
+fn soak<'a>(alloc: Global) -> Result<Command<'a>, AllocError>
+    ensures { IfOk result (λ c. shape_of c ≡ shape.soak) }
+{
+    Command::new(alloc, "soak")
+        .arg(word(alloc, "N"))?
+        .arg(word(alloc, "SEED"))
+}
+
 /// The program's own name, and how its words are read.
 fn settings<'a>(alloc: Global) -> Command<'a>
     ensures { app_of result ≡ shape.settings }
@@ -118,6 +127,7 @@ fn program<'a>(alloc: Global) -> Result<Command<'a>, AllocError>
         .subcommand(engine(alloc)?)?
         .subcommand(ide(alloc)?)?
         .subcommand(replay(alloc)?)?
+        .subcommand(soak(alloc)?)?
         .subcommand(Command::new(alloc, "show"))
 }
 

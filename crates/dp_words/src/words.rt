@@ -4,7 +4,8 @@ ghost use Rattle.std.specs.Prelude.{Ok, codes, false, map, option_and_then, stri
 ghost use Rattle.std.specs.Option.{option_map};
 ghost use Rattle.clap.specs.Words.{first_of, found_of, rows_of};
 ghost use Rattle.dp_words.specs.Words.{AreFileWords, Invocation, IsFileWord, IsHostWord, IsInvocation, IsSession};
-ghost use Rattle.dp_words.specs.Words.{Task, bound_of as bound_word, port_of};
+ghost use Rattle.dp_words.specs.Words.{Task, bound_of as bound_word, port_of, session_count_of, seed_limit};
+ghost use Rattle.dp_value.specs.Decimals.{decimal_in};
 ghost use Rattle.dp_words.specs.Commands.{invocation_seen, task_of};
 ghost use Rattle.dp_words.specs.Plain.{are_plain};
 ghost use Rattle.dp_words.specs.inner.Given.{bound_given};
@@ -60,6 +61,13 @@ pub struct Replay<'a> {
     pub program: Program<'a>,
 }
 
+/// A list of events that is drawn: how many sessions it has, and from which seed.
+#[derive(Clone, Copy, Debug)]
+pub struct Soak {
+    pub count: u32,
+    pub seed: u64,
+}
+
 /// What the program is asked for.
 #[derive(Clone, Copy, Debug)]
 pub enum Command<'a> {
@@ -73,12 +81,14 @@ pub enum Command<'a> {
     Ide(Ide<'a>),
     /// The transcript of events.
     Replay(Replay<'a>),
+    /// The tally of events that are drawn.
+    Soak(Soak),
     /// The elements of the packets that are read.
     Show,
 }
 
 /// How many moments a program may have where the words do not say it.
-pub(crate) const DEFAULT_BOUND: u64 = 1_000_000;
+pub const DEFAULT_BOUND: u64 = 1_000_000;
 
 /// The most moments that the words may ask for.
 pub(crate) const BOUND_LIMIT: u64 = 100_000_000;
@@ -298,6 +308,36 @@ fn read_replay<'a>(words: &'a [String], given: &ArgMatches<'a>) -> Option<Replay
     replay_of(word_of(given, "EVENTS")?, program)
 }
 
+/// The most sessions that a soak may have.
+const SOAK_LIMIT: u64 = 10_000;
+
+/// How many sessions a word asks for: a decimal from 1 to the most.
+fn read_count(word: &str) -> Option<u32>
+    ensures { result ≡ session_count_of word.now }
+{
+    let count = decimal(word.as_bytes(), SOAK_LIMIT)?;
+    if count == 0 {
+        return None;
+    }
+    Some(count as u32)
+}
+
+/// `soak N SEED`
+fn read_soak(given: &ArgMatches) -> Option<Soak>
+    ensures found { IfSome result (λ s.
+        (option_and_then session_count_of (first_of (codes "N") (rows_of (found_of given.now))) ≡ Some s.count)
+        × (option_and_then (decimal_in seed_limit) (first_of (codes "SEED") (rows_of (found_of given.now)))
+        ≡ Some s.seed)) }
+    ensures none { IfNone result ((number drawn : List ℕ) (count seed : ℕ)
+        → first_of (codes "N") (rows_of (found_of given.now)) ≡ Some number
+        → first_of (codes "SEED") (rows_of (found_of given.now)) ≡ Some drawn
+        → session_count_of number ≡ Some count → decimal_in seed_limit drawn ≡ Some seed → ⊥) }
+{
+    let count = read_count(word_of(given, "N")?)?;
+    let seed = decimal(word_of(given, "SEED")?.as_bytes(), u64::MAX)?;
+    Some(Soak { count, seed })
+}
+
 /// What a command of this name asks for with what it is given.
 #[tactic(auto, using(crate::proofs::GivenLaws::few_files))]
 fn command_named<'a>(words: &'a [String], name: &str, given: &ArgMatches<'a>) -> Option<Command<'a>>
@@ -319,6 +359,9 @@ fn command_named<'a>(words: &'a [String], name: &str, given: &ArgMatches<'a>) ->
     }
     if name == "replay" {
         return Some(Command::Replay(read_replay(words, given)?));
+    }
+    if name == "soak" {
+        return Some(Command::Soak(read_soak(given)?));
     }
     Some(Command::Show)
 }

@@ -1,6 +1,6 @@
 -- What carrying out a command came to, by what the objects tell before and after.
-use Rattle.std.specs.Prelude.{◌≡◌, ◌≤◌, ℕ, List, Some, Result, IfOk, MatchResult}
-use Rattle.dp_words.specs.Words.{Invocation, Task, replay, show, invocation_in}
+use Rattle.std.specs.Prelude.{◌≡◌, ◌≤◌, ℕ, false, List, Some, Result, IfOk, MatchResult}
+use Rattle.dp_words.specs.Words.{Invocation, Task, replay, invocation_in, uses_shelf}
 use Rattle.dp_top.specs.declared.failures.Refused.{Refused}
 use Rattle.dp_top.specs.Seen.{Seen}
 use Rattle.dp_top.specs.Statuses.{exit_limit}
@@ -18,6 +18,6 @@ pub record IsCarriedOut (result : Result ℕ Refused) (task : Task) (old new : S
   -- Likewise of a list of events, where it is one.
   pub replay_held : (events : List ℕ) (ask : Invocation) → task ≡ replay events ask
       → AreCompleteWith events ask result old new
-  pub show_shelf : task ≡ show → new.shelf.faults ≡ old.shelf.faults
+  pub unshelved : uses_shelf task ≡ false → new.shelf ≡ old.shelf
   pub fetched : IsFetchedFor task old.shelf.fetched new.shelf.fetched
   pub goes_on : Continues old new

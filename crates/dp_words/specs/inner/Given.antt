@@ -6,7 +6,7 @@ use Rattle.clap.specs.declared.builder.value_parser.Reading.TheVariants.{AsWritt
 use Rattle.clap.specs.declared.parser.matches.ValueSource.TheVariants.{CommandLine}
 use Rattle.dp_words.specs.Words.{Invocation, bound_of, default_bound}
 use Rattle.dp_words.specs.Plain.{is_plain}
-use Rattle.dp_words.specs.inner.Shapes.{engine_words, ide_words, replay_words, talk_words}
+use Rattle.dp_words.specs.inner.Shapes.{engine_words, ide_words, replay_words, soak_words, talk_words}
 
 pub data Given : Type 0 where
   run_given : (bound : Option Text) → (files : List Text) → Given
@@ -14,6 +14,7 @@ pub data Given : Type 0 where
   engine_given : (bound : Option Text) → (host port key : Text) → (files : List Text) → Given
   ide_given : (port script : Text) → Given
   replay_given : (bound : Option Text) → (events : Text) → (files : List Text) → Given
+  soak_given : (count seed : Text) → Given
   show_given : Given
 
 -- ---- the words
@@ -24,6 +25,7 @@ name_in (talk_given bound key files) = codes "talk"
 name_in (engine_given bound host port key files) = codes "engine"
 name_in (ide_given port script) = codes "ide"
 name_in (replay_given bound events files) = codes "replay"
+name_in (soak_given count seed) = codes "soak"
 name_in show_given = codes "show"
 
 abbrev pub bound_in : Given → Option Text
@@ -32,6 +34,7 @@ bound_in (talk_given bound key files) = bound
 bound_in (engine_given bound host port key files) = bound
 bound_in (ide_given port script) = None
 bound_in (replay_given bound events files) = bound
+bound_in (soak_given count seed) = None
 bound_in show_given = None
 
 -- those of the command that stand before the files
@@ -41,6 +44,7 @@ first_in (talk_given bound key files) = key ∷ []
 first_in (engine_given bound host port key files) = host ∷ port ∷ key ∷ []
 first_in (ide_given port script) = port ∷ script ∷ []
 first_in (replay_given bound events files) = events ∷ []
+first_in (soak_given count seed) = count ∷ seed ∷ []
 first_in show_given = []
 
 abbrev pub files_in : Given → List Text
@@ -49,6 +53,7 @@ files_in (talk_given bound key files) = files
 files_in (engine_given bound host port key files) = files
 files_in (ide_given port script) = []
 files_in (replay_given bound events files) = files
+files_in (soak_given count seed) = []
 files_in show_given = []
 
 -- words behind `--bound N`, or without it
@@ -103,6 +108,7 @@ ids_in (talk_given bound key files) = talk_words
 ids_in (engine_given bound host port key files) = engine_words
 ids_in (ide_given port script) = ide_words
 ids_in (replay_given bound events files) = replay_words
+ids_in (soak_given count seed) = soak_words
 ids_in show_given = []
 
 abbrev pub rows_in : Given → List Row

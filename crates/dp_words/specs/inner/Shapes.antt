@@ -55,6 +55,9 @@ ide_words = codes "PORT" ∷ codes "SCRIPT" ∷ []
 abbrev pub replay_words : List Text
 replay_words = codes "EVENTS" ∷ []
 
+abbrev pub soak_words : List Text
+soak_words = codes "N" ∷ codes "SEED" ∷ []
+
 -- ---- the commands
 
 abbrev pub run : Shape
@@ -71,6 +74,9 @@ ide = plain_row (codes "ide") ide_words
 
 abbrev pub replay : Shape
 replay = program_row (codes "replay") replay_words
+
+abbrev pub soak : Shape
+soak = plain_row (codes "soak") soak_words
 
 abbrev pub show : Shape
 show = plain_row (codes "show") []
@@ -90,5 +96,5 @@ settings = record { top = top; subs = [] }
 abbrev pub program : App
 program = record {
   top = record top { is_leaf = false };
-  subs = run ∷ talk ∷ engine ∷ ide ∷ replay ∷ show ∷ [];
+  subs = run ∷ talk ∷ engine ∷ ide ∷ replay ∷ soak ∷ show ∷ [];
 }

@@ -1,5 +1,7 @@
 use Rattle.std.proofs.Common.{ap}
 use Rattle.dp_top.proofs.ReplayReports.{complete_with}
+use Rattle.dp_top.proofs.SoakLaws.{count_within}
+use Rattle.dp_words.specs.Words.{IsSoak}
 use Rattle.dp_words.specs.Commands.{invocation_seen, task_of}
 use Rattle.dp_top.proofs.commands.carry_out.Goals as goal
 
@@ -11,3 +13,15 @@ returns-in-Replay-clause-replay_held g c = λ events ask same. rw (← c.objects
     (complete_with events c.in-Replay.request.events.now ask (invocation_seen c.in-Replay.request.program)
     (task_of c.args.command) c.replay.result _ _
     (ap task_of c.in-Replay.is) same (record { by_files = c.replay.ensures.held }))
+
+pub soak-requires-clause-some : goal.soak-requires-clause-some
+soak-requires-clause-some g c =
+    let asks : IsSoak c.requires.invocation.0 c.in-Soak.request.count c.in-Soak.request.seed = rw c.in-Soak.is at
+    c.requires.invocation.1 in
+    (count_within asks.number c.in-Soak.request.count asks.is_count).0
+
+pub soak-requires-clause-most : goal.soak-requires-clause-most
+soak-requires-clause-most g c =
+    let asks : IsSoak c.requires.invocation.0 c.in-Soak.request.count c.in-Soak.request.seed = rw c.in-Soak.is at
+    c.requires.invocation.1 in
+    (count_within asks.number c.in-Soak.request.count asks.is_count).1

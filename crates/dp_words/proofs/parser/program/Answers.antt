@@ -18,6 +18,7 @@ returns c =
     let engine_is : shape_of c.in_ok-engine.field-0 ≡ row.engine = search rules in
     let ide_is : shape_of c.in_ok-ide.field-0 ≡ row.ide = search rules in
     let replay_is : shape_of c.in_ok-replay.field-0 ≡ row.replay = search rules in
+    let soak_is : shape_of c.in_ok-soak.field-0 ≡ row.soak = search rules in
     let show_is : shape_of c.new.result ≡ row.show = ap (λ (a : App). a.top) c.new.ensures.app in
     let one = c.in_ok-subcommand.ensures.shape (local _ _ run_is refl) ∙ ap₂ with_subcommand c.settings.ensures run_is
     in
@@ -25,5 +26,6 @@ returns c =
     let three = c.in_ok-subcommand-3.ensures.shape (local _ _ engine_is refl) ∙ ap₂ with_subcommand two engine_is in
     let four = c.in_ok-subcommand-4.ensures.shape (local _ _ ide_is refl) ∙ ap₂ with_subcommand three ide_is in
     let five = c.in_ok-subcommand-5.ensures.shape (local _ _ replay_is refl) ∙ ap₂ with_subcommand four replay_is in
-    IfOk-weaker c.subcommand-6.result _ _ (λ r h. h.shape c.new.ensures.local ∙ ap₂ with_subcommand five show_is)
-    c.subcommand-6.ensures
+    let six = c.in_ok-subcommand-6.ensures.shape (local _ _ soak_is refl) ∙ ap₂ with_subcommand five soak_is in
+    IfOk-weaker c.subcommand-7.result _ _ (λ r h. h.shape c.new.ensures.local ∙ ap₂ with_subcommand six show_is)
+    c.subcommand-7.ensures
