@@ -1,0 +1,74 @@
+//! Calls of the crates of trees and values.
+
+use dp_operations::{binary, text};
+use dp_parse::{ParseError, parse_file};
+use dp_shared::Shared;
+use dp_tree::{BinaryOp, Bundle, BundleFile, Files};
+use dp_value::{Bytes, Items, Memory, PhpArray, Value, ValueError, WriteError};
+use std::alloc::Global;
+
+/// Operators are case tables.
+pub(crate) fn dp_operations(alloc: Global) -> Result<String, ValueError> {
+    // call
+    let product = binary(alloc, BinaryOp::Mul, &Value::Int(6), &Value::Int(7))?;
+    let spelt = text(alloc, &product)?;
+    // end
+    let answer = String::from_utf8_lossy(alloc, spelt.as_slice())?;
+    Ok(answer)
+}
+
+/// How many entries a value has.
+fn entries(value: &Value) -> usize {
+    match value {
+        Value::Array(array) => array.len(),
+        _ => 0,
+    }
+}
+
+/// What two owners share is written by one.
+pub(crate) fn dp_shared(alloc: Global) -> Result<String, WriteError> {
+    // call
+    let mut one = Shared::of(Value::Array(PhpArray::new(alloc))).settled(alloc)?;
+    let other = one.try_clone()?;
+    one.write(alloc, &[], true, Shared::of(Value::Int(7)))?;
+    // end
+    let (one, other) = (entries(one.value()), entries(other.value()));
+    let answer = format!(in alloc; "{one} and {other}")?;
+    Ok(answer)
+}
+
+/// A file of this text.
+pub(crate) fn file(alloc: Global, text: &[u8]) -> Result<BundleFile, ParseError> {
+    if text.len() > 1_000_000 {
+        return Err(ParseError::Memory);
+    }
+    let tree = parse_file(alloc, text)?;
+    let name = Bytes::from_slice(alloc, b"a.php")?;
+    let text = Bytes::from_slice(alloc, text)?;
+    Ok(BundleFile { name, text, tree })
+}
+
+/// A program of one file.
+pub(crate) fn dp_tree(alloc: Global, file: BundleFile) -> Result<Bundle, Memory> {
+    // call: of a file with its tree, as parse_file of dp_parse makes it
+    let mut files = Vec::new(alloc);
+    files.push(file)?;
+    let files = Files::of(alloc, Items::of(files))?;
+    let bundle = Bundle { files };
+    // end
+    Ok(bundle)
+}
+
+/// The program of the calls.
+pub(crate) fn program(alloc: Global) -> Result<Bundle, ParseError> {
+    let text = b"<?php\n$x = 6;\necho f($x);\nfunction f($n) { return $n * 7; }\n";
+    let file = file(alloc, text)?;
+    let bundle = dp_tree(alloc, file)?;
+    Ok(bundle)
+}
+
+/// How many files a program has.
+pub(crate) fn files(alloc: Global, bundle: &Bundle) -> Result<String, Memory> {
+    let count = bundle.files.len();
+    format!(in alloc; "{count} file")
+}

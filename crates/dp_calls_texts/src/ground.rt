@@ -1,0 +1,62 @@
+//! Calls of the crates of the ground.
+
+use dp_adapters::ReaderSource;
+use dp_outside::{ByteSink, Sink, Source};
+use dp_value::{Key, Memory, PhpArray, Value, ValueError};
+use dp_wire::Commands;
+use std::alloc::Global;
+
+/// A sink in memory takes bytes.
+pub(crate) fn dp_outside(alloc: Global) -> Result<String, Memory> {
+    // call: the third put fails
+    let mut fails = Vec::new(alloc);
+    fails.push(3)?;
+    let mut sink = ByteSink::new(alloc, 16, fails)?;
+    let went = sink.put(b"hello").is_ok();
+    let taken = sink.taken();
+    // end
+    let taken = String::from_utf8_lossy(alloc, taken)?;
+    let taken = taken.as_str();
+    format!(in alloc; "{went}, {taken}")
+}
+
+/// A source reads a stream.
+pub(crate) fn dp_adapters(alloc: Global) -> Result<String, Memory> {
+    // call
+    let mut source = ReaderSource::new(b"hello".as_slice());
+    let mut room = [0; 4];
+    let count = source.take(&mut room);
+    let faults = source.faults();
+    // end
+    let count = count.unwrap_or(0);
+    format!(in alloc; "{count} bytes, {faults} faults")
+}
+
+/// An array has values under keys.
+pub(crate) fn dp_value(alloc: Global) -> Result<String, ValueError> {
+    // call
+    let mut array = PhpArray::new(alloc);
+    array.push(Value::Int(7))?;
+    array.set(Key::Int(5), Value::Bool(true))?;
+    array.push(Value::Null)?;
+    let last = array.get(&Key::Int(6));
+    // end
+    let is_null = matches!(last, Some(Value::Null));
+    let answer = format!(in alloc; "{is_null}")?;
+    Ok(answer)
+}
+
+/// A stream is cut into commands.
+pub(crate) fn dp_wire(alloc: Global) -> Result<String, Memory> {
+    let mut answer = String::new(alloc);
+    // call
+    let mut commands = Commands::new(alloc);
+    commands.feed(b"status -i 1\0run -")?;
+    let first = commands.next();
+    // end
+    if let Ok(Some(line)) = first {
+        let (start, end) = (line.start, line.end);
+        write!(answer, "{start}..{end}")?;
+    }
+    Ok(answer)
+}
