@@ -1,0 +1,42 @@
+//! What each IDE receives of the engines of a program.
+ghost use Rattle.std.specs.Prelude.{◌≡◌, ◌≤◌, List, ℕ, false, length};
+ghost use Rattle.dp_engine.specs.Responses.{main_name};
+ghost use Rattle.dp_engine.specs.Served as session;
+ghost use Rattle.dp_events.specs.declared.event.Act.{Act};
+ghost use Rattle.dp_events.specs.declared.event.Event.{Event};
+ghost use Rattle.dp_lanes.specs.declared.lane.LaneKind.TheVariants.{Down};
+ghost use Rattle.dp_lanes.specs.Lanes.{is_bad};
+ghost use Rattle.dp_outside.specs.Names.{key_limit};
+ghost use Rattle.dp_proxy_laws.specs.PlainWords.{IsPlain, given_on};
+ghost use Rattle.dp_registry.specs.declared.pass.Pass.{Pass};
+ghost use Rattle.dp_session_laws.specs.AllOutput.{AreBytes};
+ghost use Rattle.dp_top.specs.Engines.{engines_of};
+ghost use Rattle.dp_tree.specs.FileNames.{file_name_limit};
+ghost use Rattle.dp_tree.specs.declared.bundle.Bundle.{Bundle};
+ghost use Rattle.dp_world.specs.Alone as world;
+ghost use Rattle.dp_world.specs.Headline.{EachReceives};
+
+/// What an engine of a program sends, served alone, what goes to its own output, and how its program ends, are those
+/// of a session of dp_engine.
+pub fn served_alone()
+    ensures sent { (bundle : Bundle) (bound : ℕ) (key bytes : List ℕ)
+        → world.alone (engines_of bundle bound) key bytes ≡ session.alone bundle bound key bytes }
+    ensures own { (bundle : Bundle) (bound : ℕ) (bytes : List ℕ)
+        → world.own (engines_of bundle bound) bytes ≡ session.own bundle bound bytes }
+    ensures ending { (bundle : Bundle) (bound : ℕ) (bytes : List ℕ)
+        → world.ending (engines_of bundle bound) bytes ≡ session.ending bundle bound bytes }
+{}
+
+/// For every program, bound and list of events, each IDE receives exactly the whole packets that its engine, served
+/// alone with that IDE's commands, would send for the session its key gave it, and nothing of another's.
+pub fn each_ide_receives()
+    ensures { (bundle : Bundle) (bound : ℕ) (events : List Event) → EachReceives (engines_of bundle bound) events }
+{}
+
+/// The same in plain words, where no command passes its limit: what an IDE has given and how much was read of its
+/// engine, by what happens on its link alone. The key has at most 128 bytes, the name of the main file at most 255.
+pub fn in_plain_words()
+    ensures { (bundle : Bundle) (bound : ℕ) (key : List ℕ) (pass : Pass) (acts : List Act)
+        → AreBytes (given_on acts) → length key ≤ key_limit → length (main_name bundle) ≤ file_name_limit
+        → is_bad Down (given_on acts) ≡ false → IsPlain (engines_of bundle bound) key pass acts }
+{}
