@@ -3,6 +3,7 @@ pub mod Owners
 pub mod Pairs
 pub mod FoundFunctions
 pub mod Slots
+pub mod Positions
 pub mod Homes
 pub mod VariableSteps
 pub mod Removals

@@ -14,7 +14,7 @@ use crate::moments::FatalKind;
 use crate::state::Fault;
 use crate::vars::{Slot, Vars};
 use dp_shared::Shared;
-use dp_value::{Bytes, Key, Memory, Value};
+use dp_value::{Bytes, Key, Memory, Value, WEIGHT_LIMIT, weight};
 use std::alloc::Global;
 
 /// Gives a variable a value, or gives it to the entry of the variable under `keys`, or pushes it there.
@@ -27,9 +27,13 @@ pub(crate) fn assign_in(
 ) -> Result<(), Fault>
     ensures ok { OnOk result (assigned_in name.now keys.now push value vars.old ≡ Ok vars.new) }
     ensures refused { IfErr result (IsCauseIn (assigned_in name.now keys.now push value vars.old)) }
+    ensures sure { keys.now ≡ [] → push ≡ false → IsSureIn (assigned_in name.now keys.now push value vars.old) result }
     ensures err { OnErr result (vars.new ≡ vars.old) }
 {
     let alloc = vars.allocator();
+    if keys.is_empty() && !push {
+        return assign_whole(alloc, vars, name, value);
+    }
     let Some(mut held) = vars.exchange(name, Shared::of(Value::Null)) else {
         return assign_new(alloc, vars, name, keys, push, value);
     };
@@ -38,6 +42,31 @@ pub(crate) fn assign_in(
     match done {
         Ok(()) => Ok(()),
         Err(why) => Err(Fault::from(why)),
+    }
+}
+
+/// Gives a variable a value.
+fn assign_whole(alloc: Global, vars: &mut Vars, name: &Bytes, value: Shared) -> Result<(), Fault>
+    ensures ok { OnOk result (assigned_in name.now [] false value vars.old ≡ Ok vars.new) }
+    ensures refused { IfErr result (IsCauseIn (assigned_in name.now [] false value vars.old)) }
+    ensures sure { IsSureIn (assigned_in name.now [] false value vars.old) result }
+    ensures err { OnErr result (vars.new ≡ vars.old) }
+{
+    if weight(value.value()) > WEIGHT_LIMIT {
+        return Err(Fault::Fatal(FatalKind::TooHeavy));
+    }
+    put(vars, name, value.settled(alloc)?)?;
+    Ok(())
+}
+
+/// Gives a variable a value that is kept for its owners.
+fn put(vars: &mut Vars, name: &Bytes, value: Shared) -> Result<(), Memory>
+    ensures ok { OnOk result (vars.new ≡ with_slot vars.old name.now (variable.Held value)) }
+    ensures err { OnErr result (vars.new ≡ vars.old) }
+{
+    match vars.put(name, value) {
+        None => Ok(()),
+        Some(value) => vars.set(name.try_clone()?, Slot::Held(value)),
     }
 }
 

@@ -37,7 +37,7 @@ fn owner(frames: &[Frame], at: usize) -> usize
 
 impl State {
     /// The own variables of the frame at this position; those of the lowest are the global ones.
-    fn own(&self, at: usize) -> &Vars
+    pub(crate) fn own(&self, at: usize) -> &Vars
         ensures { result.now ≡ own_variables self.now at }
     {
         if at == 0 {

@@ -28,7 +28,8 @@ impl State {
     /// then it is copied first. A value with other owners that goes under keys is copied too.
     ///
     /// The causes are tried key by key: `Scalar` and `Unsupported` by what holds the entry, then `BadKey`; behind the
-    /// last key `NextIndex`, then `TooHeavy`. After a refusal the state is as before.
+    /// last key `NextIndex`, then `TooHeavy`. A whole variable is refused also where there is no memory. After a
+    /// refusal the state is as before.
     pub fn assign(
         &mut self,
         level: usize,
@@ -39,9 +40,14 @@ impl State {
     ) -> Result<(), Fault>
         ensures ok { OnOk result (assigned level name.now keys.now push value self.old ≡ Ok self.new) }
         ensures refused { IfErr result (IsCause (assigned level name.now keys.now push value self.old)) }
+        ensures sure { keys.now ≡ [] → push ≡ false
+            → IsSure (assigned level name.now keys.now push value self.old) result }
         ensures err { OnErr result (self.new ≡ self.old) }
     {
         let at = self.home(level, name);
+        if at == 0 {
+            return assign_in(&mut self.globals, name, keys, push, value);
+        }
         let mut vars = self.take_own(at);
         let done = assign_in(&mut vars, name, keys, push, value);
         let _ = self.exchange_own(at, vars);
@@ -64,6 +70,9 @@ impl State {
             → (self.new ≡ self.old) ⊎ (assigned 0 name.now [] false variant.Null self.old ≡ Ok self.new) }
     {
         let at = self.home(0, name);
+        if at == 0 {
+            return append_in(&mut self.globals, name, text, piece);
+        }
         let mut vars = self.take_own(at);
         let done = append_in(&mut vars, name, text, piece);
         let _ = self.exchange_own(at, vars);
@@ -89,6 +98,9 @@ impl State {
             return Ok(());
         }
         let at = self.home(0, name);
+        if at == 0 {
+            return remove_in(&mut self.globals, name, keys);
+        }
         let mut vars = self.take_own(at);
         let done = remove_in(&mut vars, name, keys);
         let _ = self.exchange_own(at, vars);
@@ -135,10 +147,11 @@ impl State {
         ensures home { result ≡ home_of self.now level name.now }
         ensures within { result ≤ length self.now.frames - 1 }
     {
-        if is_bound(self.variables(level), name) {
+        let at = self.owner_at(level);
+        if at == 0 || is_bound(self.own(at), name) {
             return 0;
         }
-        self.owner_at(level)
+        at
     }
 
     /// Takes the own variables of the frame at this position out, and leaves none there.

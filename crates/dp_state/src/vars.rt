@@ -1,11 +1,17 @@
 //! The variables of a frame.
 
+ghost use Rattle.std.specs.Prelude.{◌≡◌, position, Some, IfSome};
+ghost use Rattle.std.specs.Str.{bytes_eq};
+
 use dp_shared::Shared;
 use dp_value::{Bytes, Memory};
 use indexmap::IndexMap;
 use std::alloc::Global;
 use std::marker::Model;
 use std::mem;
+
+/// How many variables are looked through by their names, before the hash of a name is taken.
+const NEAR: usize = 8;
 
 /// What a name of a frame has: a value, or the mark that it is bound to the global variable of its name.
 #[derive(Debug, Drop)]
@@ -34,7 +40,7 @@ impl Model for Vars {
 }
 
 impl Slot {
-    ghost use Rattle.std.specs.Prelude.{◌≡◌, Some};
+    ghost use Rattle.std.specs.Prelude.{◌≡◌, if◌then◌else◌, is_some, None, Some};
     ghost use Rattle.dp_state.specs.Variables.{value_held};
     ghost use Rattle.dp_state.specs.inner.Parts.{with_held};
 
@@ -48,13 +54,27 @@ impl Slot {
             Slot::Bound => None,
         }
     }
+
+    /// Puts a value in the place of the one that is held. Gives it back where none is.
+    fn put(&mut self, value: Shared) -> Option<Shared>
+        ensures back { result ≡ (if is_some (value_held (Some self.old)) then None else Some value) }
+        ensures exchanged { self.new ≡ with_held value self.old }
+    {
+        match self {
+            Slot::Held(held) => {
+                *held = value;
+                None
+            }
+            Slot::Bound => Some(value),
+        }
+    }
 }
 
 impl Vars {
-    ghost use Rattle.std.specs.Prelude.{◌≡◌, [], length, is_some, if◌then◌else◌, option_map, slice_get, OnOk};
-    ghost use Rattle.std.specs.Prelude.{OnErr};
+    ghost use Rattle.std.specs.Prelude.{◌≡◌, [], length, is_some, if◌then◌else◌, option_map, position, slice_get, OnOk};
+    ghost use Rattle.std.specs.Prelude.{None, OnErr, Some};
     ghost use Rattle.std.specs.List.{IsDistinct};
-    ghost use Rattle.std.specs.Map.{keys_of};
+    ghost use Rattle.std.specs.Map.{keys_of, values_of};
     ghost use Rattle.std.specs.Str.{bytes_eq};
     ghost use Rattle.dp_state.specs.Variables.{slot_of, value_held, with_slot, without};
     ghost use Rattle.dp_state.specs.declared.vars.Slot.TheVariants as variable;
@@ -87,7 +107,30 @@ impl Vars {
     pub fn get(&self, name: &Bytes) -> Option<&Slot>
         ensures { option_map (λ slot. slot.now) result ≡ slot_of self.now name.now }
     {
-        self.slots.get(name)
+        match self.place(name) {
+            Some(at) => self.slot_at(at),
+            None => None,
+        }
+    }
+
+    /// The position of a name: found by the names of the first few, and by the hash of the name if it is none of them.
+    fn place(&self, name: &Bytes) -> Option<usize>
+        ensures { result ≡ position (bytes_eq name.now) (keys_of self.now) }
+    {
+        match near(self.slots.keys().as_slice(), name) {
+            Some(at) => Some(at),
+            None => self.slots.get_index_of(name),
+        }
+    }
+
+    /// What the name at a position has.
+    fn slot_at(&self, at: usize) -> Option<&Slot>
+        ensures { option_map (λ slot. slot.now) result ≡ slice_get (values_of self.now) at }
+    {
+        match self.slots.get_index(at) {
+            Some((_, slot)) => Some(slot),
+            None => None,
+        }
     }
 
     /// Gives a name a slot. A name that is there keeps its place, a new one goes last.
@@ -106,10 +149,29 @@ impl Vars {
         ensures exchanged { self.new ≡ (if is_some (value_held (slot_of self.old name.now))
             then with_slot self.old name.now (variable.Held value) else self.old) }
     {
-        let Some(slot) = self.slots.get_mut(name) else {
+        let Some(at) = self.place(name) else {
+            return None;
+        };
+        let Some(slot) = self.slots.get_index_mut(at) else {
             return None;
         };
         slot.exchange(value)
+    }
+
+    /// Puts a value in the place of the one that a name holds. Where the name holds none, nothing changes, and the
+    /// value is given back. Takes no memory.
+    pub(crate) fn put(&mut self, name: &Bytes, value: Shared) -> Option<Shared>
+        ensures back { result ≡ (if is_some (value_held (slot_of self.old name.now)) then None else Some value) }
+        ensures exchanged { self.new ≡ (if is_some (value_held (slot_of self.old name.now))
+            then with_slot self.old name.now (variable.Held value) else self.old) }
+    {
+        let Some(at) = self.place(name) else {
+            return Some(value);
+        };
+        let Some(slot) = self.slots.get_index_mut(at) else {
+            return Some(value);
+        };
+        slot.put(value)
     }
 
     /// Takes a name out. Takes no memory.
@@ -123,4 +185,20 @@ impl Vars {
     pub(crate) fn allocator(&self) -> Global {
         *self.slots.allocator()
     }
+}
+
+/// The position of a name, if it is one of the first few.
+fn near(names: &[Bytes], name: &Bytes) -> Option<usize>
+    ensures { IfSome result (λ at. position (bytes_eq name.now) names.now ≡ Some at) }
+{
+    let few = names.len().min(NEAR);
+    position_of(&names[..few], name)
+}
+
+/// The position of a name among names.
+fn position_of(names: &[Bytes], name: &Bytes) -> Option<usize>
+    ensures { result ≡ position (bytes_eq name.now) names.now }
+{
+    let mut names = names.iter();
+    names.position(|other| name == other)
 }

@@ -1,0 +1,57 @@
+-- The position of a name among variables.
+use Rattle.std.proofs.Common.{◌≡◌, ℕ, zero, suc, ◌<◌, Bool, true, false, cond, nat_lt, List, [], ◌∷◌, get_or, length, position, slice_get, take, Option, Some, None, IfSome, sym, ap, ◌∙◌, arith, lt-ltb}
+use Rattle.std.specs.List.{position_or_len}
+use Rattle.std.specs.Map.{keys_of, set_value, values_of}
+use Rattle.std.specs.Str.{bytes_eq}
+use Rattle.std.proofs.lemmas.List.{get_or-take, length-take}
+use Rattle.std.proofs.lemmas.List.Quantifiers.{position-Some}
+use Rattle.std.proofs.lemmas.List.Sums.{position_or_len_is}
+use Rattle.indexmap.specs.IndexMap.{set_value_at}
+use Rattle.indexmap.proofs.MapLemmas.{Found-position, Missing-position}
+use Rattle.dp_value.specs.declared.value.Value.{Value}
+use Rattle.dp_state.specs.declared.vars.Slot.{Slot}
+use Rattle.dp_state.specs.Variables.{Variables, slot_of}
+use Rattle.dp_state.specs.inner.Parts.{with_held}
+use Rattle.dp_state.proofs.Slots.{exchanged, Exchanged}
+
+-- the first among the first of a list is the first of it
+module _ {X : Type 0} (p : X → Bool) (xs : List X) (k : ℕ) (d : X) where
+  first-of : (i : ℕ) → position p (take k xs) ≡ Some i → position p xs ≡ Some i
+  first-of i e =
+      let at = position-Some p (take k xs) i d e in
+      let within : i < length xs = omega (arith, at.0, length-take k xs) in
+      let few : i < k = omega (arith, at.0, length-take k xs) in
+      let is : position_or_len p xs ≡ i =
+      position_or_len_is p xs i d (omega arith)
+      (λ j h. ap p (sym (get_or-take k xs j d (omega arith))) ∙ at.2 j h)
+      (λ h. ap p (sym (get_or-take k xs i d few)) ∙ at.1) in
+      ap (λ n. cond (nat_lt n (length xs)) (Some n) None) is ∙ ap (λ b. cond b (Some i) None) (lt-ltb i _ within)
+
+  pub near-position : (r : Option ℕ) → r ≡ position p (take k xs) → IfSome r (λ i. position p xs ≡ Some i)
+  near-position None e = tt
+  near-position (Some i) e = first-of i (sym e)
+
+-- what is written at the first name that passes is written to that name
+set-at : (t : List ℕ → Bool) (es : Variables) (i : ℕ) (w : Slot) → i < length (keys_of es)
+    → t (get_or (keys_of es) i []) ≡ true → ((k : ℕ) → k < i → t (get_or (keys_of es) k []) ≡ false)
+    → set_value_at es i w ≡ set_value t es w
+set-at t [] i w within passes fails = absurd (omega arith)
+set-at t (e ∷ es) zero w within passes fails = sym (ap (λ b. cond b ((e.0, w) ∷ es) (e ∷ set_value t es w)) passes)
+set-at t (e ∷ es) (suc i) w within passes fails =
+    ap (λ l. e ∷ l) (set-at t es i w (omega arith) passes (λ k h. fails (suc k) (omega arith)))
+    ∙ sym (ap (λ b. cond b ((e.0, w) ∷ es) (e ∷ set_value t es w)) (fails zero (omega arith)))
+
+module _ (name : List ℕ) (es : Variables) where
+  pub missing : None ≡ position (bytes_eq name) (keys_of es) → None ≡ slot_of es name
+  missing e = sym (Missing-position (bytes_eq name) es (sym e)).value
+
+  module _ (i : ℕ) (at : Some i ≡ position (bytes_eq name) (keys_of es)) where
+    pub there : slice_get (values_of es) i ≡ slot_of es name
+    there = sym (Found-position (bytes_eq name) es i (sym at)).value
+
+    pub exchanged-at : (s : Slot) (value : Value) (n : Variables) (w : Slot) → Some s ≡ slice_get (values_of es) i
+        → w ≡ with_held value s → n ≡ set_value_at es i w → Exchanged name es value n
+    exchanged-at s value n w found new is =
+        exchanged name es s value n w (found ∙ there) new
+        (let first = position-Some (bytes_eq name) (keys_of es) i [] (sym at) in
+        is ∙ set-at (bytes_eq name) es i w first.0 first.1 first.2)
