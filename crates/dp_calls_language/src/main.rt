@@ -3,7 +3,6 @@
 
 mod programs;
 mod runs;
-mod texts;
 
 use dp_value::Memory;
 use std::io;
@@ -25,10 +24,6 @@ fn put<E: Drop>(told: &mut String, name: &str, answer: Result<String, E>) -> Res
 fn main(rt: HostRuntime) -> io::Result<()> {
     let alloc = rt.alloc();
     let mut told = String::new(alloc);
-    put(&mut told, "dp_lexer", texts::dp_lexer(alloc))?;
-    put(&mut told, "dp_token_rules", texts::dp_token_rules(alloc))?;
-    put(&mut told, "dp_expressions", texts::dp_expressions(alloc))?;
-    put(&mut told, "dp_parse", texts::dp_parse(alloc))?;
     put(&mut told, "dp_operations", programs::dp_operations(alloc))?;
     put(&mut told, "dp_shared", programs::dp_shared(alloc))?;
     if let Ok(bundle) = programs::program(alloc) {
