@@ -10,7 +10,7 @@ use Rattle.dp_conversation.specs.declared.link.SessionOver.TheVariants.{Ended, L
 use Rattle.dp_conversation.specs.inner.Exchanges.{HasTaken, Converses}
 use Rattle.dp_conversation.specs.Folds.{Reply, replies}
 use Rattle.dp_conversation.specs.Growth.{served}
-use Rattle.dp_conversation.specs.Service.{EndsBy, IsReadUpTo, IsServed, piece_limit}
+use Rattle.dp_conversation.specs.Service.{ConversationEndsBy, IsConversed, IsReadUpTo, piece_limit}
 use Rattle.dp_conversation.proofs.ServiceLaws.{followed_over, replies_append, taken_all}
 
 abbrev NoMore : List ℕ → Type 0
@@ -34,7 +34,7 @@ abbrev IsOver : {E : Type 0} → Option E → List ℕ → Type 0
 IsOver ended held = ((e : _) × (ended ≡ Some e)) ⊎ ((ended ≡ None) × NoMore held)
 
 no_more : {E : Type 0} (over : SessionOver E) (ended : Option E) (held read : List ℕ) (source : Change)
-    → EndsBy over ended held read source → IsOver ended held
+    → ConversationEndsBy over ended held read source → IsOver ended held
 no_more (Ended end) ended held read source h = inl (end, h)
 no_more LinkEnd ended held read source h = inr (h.0, no_more_partial held h.1)
 no_more ReadFault ended held read source h = inr (h.0, no_more_partial held h.1)
@@ -79,10 +79,11 @@ module _ {S E : Type 0} (step : S → List ℕ → Reply S E) (start : S) (read 
       (sym same ∙ none, subst IsPartialCommand (rest_is (no_more_partial held partial)) partial)
 
   ends_over_all : (over : SessionOver E) (source : Change) (ended : Option E) → (replies step start taken).ended ≡ ended
-      → EndsBy over (replies step start taken).ended held read source → EndsBy over ended (rest_of read) read source
+      → ConversationEndsBy over (replies step start taken).ended held read source
+      → ConversationEndsBy over ended (rest_of read) read source
   ends_over_all (Ended end) source ended same h = sym same ∙ h
-  ends_over_all LinkEnd source ended same h = let left = left_over ended same h.0 h.1 in (left.0, left.1, h.2)
-  ends_over_all ReadFault source ended same h = let left = left_over ended same h.0 h.1 in (left.0, left.1, h.2)
+  ends_over_all LinkEnd source ended same h = let left = left_over ended same h.0 h.1 in (left.0, left.1, h.2, h.3)
+  ends_over_all ReadFault source ended same h = let left = left_over ended same h.0 h.1 in (left.0, left.1, h.2, h.3)
   ends_over_all (BadCommandFrame offset) source ended same h =
       let rest = rest_is (no_more_refused held h.1) in
       (sym same ∙ h.0, subst BeginsNoCommand rest h.1, subst (λ (l : List ℕ). offset + length l ≡ length read) rest h.2)
@@ -91,7 +92,7 @@ module _ {S E : Type 0} (step : S → List ℕ → Reply S E) (start : S) (read 
 -- a conversation that is over has served the session
 pub is_served : {S E : Type 0} (step : S → List ℕ → Reply S E) (start state : S) (init : List ℕ) (over : SessionOver E)
     (source sink out : Change)
-    → Converses step start state init over source sink out → IsServed step start state init over source sink out
+    → Converses step start state init over source sink out → IsConversed step start state init over source sink out
 is_served {S} {E} step start state init over source sink out c =
     let talk = c.talk in
     let all : served step start c.read ≡ replies step start talk.taken =
@@ -99,6 +100,7 @@ is_served {S} {E} step start state init over source sink out c =
     (no_more over (replies step start talk.taken).ended c.held c.read source c.ends) in
     record {
       read = c.read;
+      within = c.within;
       up_to = c.up_to;
       consumed = talk.consumed;
       sent =
@@ -111,17 +113,46 @@ is_served {S} {E} step start state init over source sink out c =
           (ap (λ (r : Reply S E). r.ended) (sym all)) c.ends;
     }
 
--- a conversation whose commands have not ended the session, and of which part of a command is held, goes on
-pub goes_on_still : {S E : Type 0} (step : S → List ℕ → Reply S E) (start : S) (read held : List ℕ)
-    (taken : List (List ℕ)) → HasTaken read held taken
-    → (replies step start taken).ended ≡ None → IsPartialCommand held → (served step start read).ended ≡ None
-goes_on_still {S} {E} step start read held taken stands goes_on partial =
-    ap (λ (r : Reply S E). r.ended) (over_left step start read held taken stands (no_more_partial held partial))
-    ∙ goes_on
+-- where part of a command is held, all whole commands were taken
+all_taken : (read held : List ℕ) (taken : List (List ℕ)) → HasTaken read held taken → IsPartialCommand held
+    → commands_in read ≡ taken
+all_taken read held taken stands partial =
+    taken_all read held taken stands
+    ∙ ap (λ l. taken ++ l)
+    ((one_split_lem held (commands_in held) [] (rest_of held) held (commands_split held)
+    (record { whole = refl; each = tt; no_more = no_more_partial held partial })).0)
+    ∙ append-nil taken
 
--- what was read ends with this piece, before which the session went on
-pub read_up_to : {S E : Type 0} (step : S → List ℕ → Reply S E) (start : S) (front piece read : List ℕ)
-    → read ≡ front ++ piece → length piece ≤ piece_limit
-    → (served step start front).ended ≡ None → IsReadUpTo step start read
-read_up_to step start front piece read whole short goes_on =
-    record { front = front; piece = piece; whole = whole; short = short; goes_on = goes_on }
+-- What was read ends with this piece, before which the session went on: its commands had not ended it, and part of one
+-- was held.
+pub read_up_to : {S E : Type 0} (step : S → List ℕ → Reply S E) (start : S) (front held piece read : List ℕ)
+    (taken : List (List ℕ)) → HasTaken front held taken → (replies step start taken).ended ≡ None
+    → IsPartialCommand held → read ≡ front ++ piece → length piece ≤ piece_limit → IsReadUpTo step start read
+read_up_to {S} {E} step start front held piece read taken stands goes_on partial whole short =
+    let none = no_more_partial held partial in
+    record {
+      front = front;
+      piece = piece;
+      whole = whole;
+      short = short;
+      goes_on = ap (λ (r : Reply S E). r.ended) (over_left step start front held taken stands none) ∙ goes_on;
+      partial = subst IsPartialCommand (rest_is step start front held taken stands none) partial;
+    }
+
+-- and the commands before it are those that were taken
+pub read_behind : {S E : Type 0} (step : S → List ℕ → Reply S E) (start : S) (front held piece : List ℕ)
+    (taken : List (List ℕ)) → HasTaken front held taken → (replies step start taken).ended ≡ None
+    → IsPartialCommand held → length piece ≤ piece_limit
+    → (up_to : IsReadUpTo step start (front ++ piece)) × (taken ≡ commands_in up_to.front)
+read_behind {S} {E} step start front held piece taken stands goes_on partial short =
+    let none = no_more_partial held partial in (
+      record {
+        front = front;
+        piece = piece;
+        whole = refl;
+        short = short;
+        goes_on = ap (λ (r : Reply S E). r.ended) (over_left step start front held taken stands none) ∙ goes_on;
+        partial = subst IsPartialCommand (rest_is step start front held taken stands none) partial;
+      },
+      sym (all_taken front held taken stands partial),
+    )

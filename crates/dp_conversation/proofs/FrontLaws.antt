@@ -1,13 +1,15 @@
 -- What a sink has taken of bytes of which it has taken a front.
-use Rattle.std.proofs.Common.{◌≡◌, ◌<◌, ◌+◌, ℕ, List, [], ◌∷◌, ◌++◌, length, get_or, Option, take, drop, refl, sym, ap, ◌∙◌, subst, append_assoc, append-nil, take-append-drop, Result, Ok, Err, true, false}
+use Rattle.std.proofs.Common.{◌≡◌, ◌<◌, ◌≤◌, ◌+◌, ℕ, List, [], ◌∷◌, ◌++◌, length, get_or, Option, take, drop, refl, sym, ap, ◌∙◌, subst, append_assoc, append-nil, length-append, length-take, take-append-drop, Result, Ok, Err, true, false, arith}
 use Rattle.std.specs.List.{flat_map}
 use Rattle.std.specs.Io.KnownBytes.{Appends}
 use Rattle.std.proofs.KnownBytes.{Appends-nil, Appends-trans}
 use Rattle.std.proofs.lemmas.List.{take_at, take_more}
+use Rattle.std.proofs.Math.Seq.{take-append-add}
 use Rattle.std.proofs.lemmas.List.Concat.{flat_map-append}
 use Rattle.std.specs.Result.{is_err}
 use Rattle.dp_outside.specs.Causes.{HasCause, Rose}
 use Rattle.dp_outside.specs.Streams.{AppendsFront, PutAppends}
+use Rattle.dp_conversation.specs.Service.{AppendsPast}
 
 -- all of these bytes, and none of those that follow
 pub front_before : (a b : Option (List ℕ)) (bytes more : List ℕ) → Appends a b bytes → AppendsFront a b (bytes ++ more)
@@ -37,6 +39,50 @@ front_after a b c bytes more p q =
     ap (λ l. bytes ++ l) (sym (take-append-drop q.0 more)) ∙ sym (append_assoc bytes (take q.0 more) (drop q.0 more)) in
     subst (AppendsFront a c) (sym split)
     (front_before a c (bytes ++ take q.0 more) (drop q.0 more) (Appends-trans a b c bytes (take q.0 more) p q.1))
+
+-- a front of the bytes has at least none of them
+pub past_none : (a b : Option (List ℕ)) (bytes : List ℕ) → AppendsFront a b bytes → AppendsPast a b [] bytes
+past_none a b bytes p = (p.0, omega arith, p.1)
+
+-- all of these bytes, and then more
+pub past_after : (a b c : Option (List ℕ)) (bytes first all : List ℕ) → Appends a b bytes → AppendsPast b c first all
+    → AppendsPast a c (bytes ++ first) (bytes ++ all)
+past_after a b c bytes first all p q = (
+  length bytes + q.0,
+  omega (arith, q.1, length-append bytes first),
+  subst (Appends a c) (sym (take-append-add bytes all q.0)) (Appends-trans a b c bytes (take q.0 all) p q.2),
+)
+
+-- the same bytes, told otherwise
+pub past_same : (a b : Option (List ℕ)) (first all first' all' : List ℕ) → first' ≡ first → all' ≡ all
+    → AppendsPast a b first all → AppendsPast a b first' all'
+past_same a b first all first' all' is_first is_all p =
+    subst (λ (l : List ℕ). AppendsPast a b l all') (sym is_first)
+    (subst (λ (l : List ℕ). AppendsPast a b first l) (sym is_all) p)
+
+-- all of the bytes
+pub past_whole : (a b : Option (List ℕ)) (bytes : List ℕ) → Appends a b bytes → AppendsPast a b bytes bytes
+past_whole a b bytes p =
+    past_same a b _ _ _ _ (sym (append-nil bytes)) (sym (append-nil bytes))
+    (past_after a b b bytes [] [] p (past_none b b [] (front_none b [])))
+
+-- a front that has at least so many bytes has at least fewer
+pub past_less : (a b : Option (List ℕ)) (less first all : List ℕ) → length less ≤ length first
+    → AppendsPast a b first all → AppendsPast a b less all
+past_less a b less first all fewer p = (p.0, omega (arith, fewer, p.1), p.2)
+
+-- a front of these bytes is one of more
+pub past_of_more : (a b : Option (List ℕ)) (first all more : List ℕ) → length first ≤ length all
+    → AppendsPast a b first all → AppendsPast a b first (all ++ more)
+past_of_more a b first all more within p =
+    let front = take p.0 all in
+    let split : all ++ more ≡ front ++ (drop p.0 all ++ more) =
+    ap (λ l. l ++ more) (sym (take-append-drop p.0 all)) ∙ append_assoc front (drop p.0 all) more in (
+      length front,
+      omega (arith, within, p.1, length-take p.0 all),
+      subst (λ (l : List ℕ). Appends a b (take (length front) l)) (sym split)
+          (subst (Appends a b) (sym (take_at front (drop p.0 all ++ more) (length front) refl)) p.2),
+    )
 
 -- what the first items lead to, and then a front of what the next one leads to
 pub front_of_next : {X : Type 0} (f : X → List ℕ) (a b c : Option (List ℕ)) (items : List X) (i : ℕ) (item : X)

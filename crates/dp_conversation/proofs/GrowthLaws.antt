@@ -80,7 +80,7 @@ module _ {S E : Type 0} where
           }) (g.over end e);
     }
 
-  replies_go_on : (step : S → List ℕ → Reply S E) (state : S) (lines others : List (List ℕ))
+  pub replies_go_on : (step : S → List ℕ → Reply S E) (state : S) (lines others : List (List ℕ))
       → GoesOn (replies step state lines) (replies step state (lines ++ others))
   replies_go_on step state [] others = goes_on_nothing state (replies step state others)
   replies_go_on step state (line ∷ lines) others =

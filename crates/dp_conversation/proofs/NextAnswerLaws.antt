@@ -18,7 +18,8 @@ commands_front (line ∷ lines) rest each =
     ∙ commands-text line (flat_map command_frame lines ++ rest) each.0.no_nul each.0.fits
     ∙ ap (λ l. line ∷ l) (commands_front lines rest each.1)
 
-commands_go_on : (bytes more : List ℕ)
+-- the commands of more bytes are the first ones, and those of what was left with more
+pub commands_go_on : (bytes more : List ℕ)
     → commands_in (bytes ++ more) ≡ commands_in bytes ++ commands_in (rest_of bytes ++ more)
 commands_go_on bytes more =
     let split = commands_split bytes in

@@ -1,6 +1,6 @@
 -- A session that is fed its commands in pieces: what its next answer is, and how what it has come
 -- to goes on.
-use Rattle.std.specs.Prelude.{◌≡◌, ℕ, List, ◌++◌}
+use Rattle.std.specs.Prelude.{◌≡◌, ℕ, Bool, false, List, ◌++◌}
 use Rattle.std.specs.List.{AllByRecursion}
 use Rattle.dp_wire.specs.Frames.{BeginsCommand, IsPartialCommand, BeginsNoCommand, IsPacketText, rest_of}
 use Rattle.dp_conversation.specs.declared.conversation.Next.{Next}
@@ -30,6 +30,12 @@ abbrev pub AreTextsNext : {E : Type 0} → Next E → Type 0
 AreTextsNext (Answered answer) = AllByRecursion IsPacketText answer.packets
 AreTextsNext Partial = Unit {0}
 AreTextsNext TooLong = Unit {0}
+
+-- an answer comes only of a session that had not failed
+abbrev pub ComesUnfailed : {E : Type 0} → Bool → Next E → Type 0
+ComesUnfailed failed (Answered answer) = failed ≡ false
+ComesUnfailed failed Partial = Unit {0}
+ComesUnfailed failed TooLong = Unit {0}
 
 -- What a session has come to by some bytes goes on with more of them: from the state that it is in
 -- then, over what was left of the first bytes and the ones that come.

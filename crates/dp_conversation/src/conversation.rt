@@ -1,6 +1,6 @@
 //! A session that is fed its commands in whatever pieces they come.
-ghost use Rattle.std.specs.Prelude.{◌≡◌, ◌++◌, [], IfOk, OnErr, OnOk};
-ghost use Rattle.dp_conversation.specs.NextAnswer.{AreTextsNext, ComesNext};
+ghost use Rattle.std.specs.Prelude.{◌≡◌, ◌++◌, [], IfOk, OnErr, OnOk, true};
+ghost use Rattle.dp_conversation.specs.NextAnswer.{AreTextsNext, ComesNext, ComesUnfailed};
 
 use crate::responder::{Answer, Responder};
 use dp_value::Memory;
@@ -47,11 +47,13 @@ impl<A: Responder> Conversation<A> {
     /// Answers the first whole command that is held, if there is one. A caller stops once an answer has ended the
     /// session.
     ///
-    /// Once memory ran out the session has failed for good.
+    /// Where memory runs out the session has failed for good: no later call answers a command.
     pub fn next(&mut self, alloc: Global) -> Result<Next<A::End>, Memory>
         ensures comes { IfOk result (λ next. ComesNext A.step self.old.session self.new.session
             self.old.held.held self.new.held.held next) }
         ensures are_texts { IfOk result AreTextsNext }
+        ensures fails { OnErr result (A.failed self.new.session ≡ true) }
+        ensures stays { IfOk result (ComesUnfailed (A.failed self.old.session)) }
     {
         let range = match self.held.next() {
             Ok(Some(range)) => range,

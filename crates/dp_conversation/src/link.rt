@@ -7,7 +7,7 @@ ghost use Rattle.std.specs.List.{AllByRecursion};
 ghost use Rattle.dp_wire.specs.Frames.{IsPacketText, commands_in, packet_frame};
 ghost use Rattle.dp_conversation.specs.inner.Exchanges.{AnswersHeld, CutsAnswer, CutsShort, DeliversAnswer, OpenFault};
 ghost use Rattle.dp_conversation.specs.inner.Exchanges.{ReadsPiece};
-ghost use Rattle.dp_conversation.specs.Service.{IsServed, IsCut};
+ghost use Rattle.dp_conversation.specs.Service.{IsConversed, IsConversationCut};
 
 use crate::conversation::{Conversation, Next};
 use crate::puts::{Unsent, put_unless_empty, send, send_all};
@@ -150,7 +150,8 @@ fn read_piece<A: Responder, S: Source>(
     ensures session { talk.new.session ≡ talk.old.session }
     ensures ok { IfOk result (λ piece. ReadsPiece piece (length buffer.old)
         (change S.left S.faults source.old source.new) talk.old.held.held talk.new.held.held) }
-    ensures err { OnErr result ((piece : List ℕ) × Consumes (S.left source.old) (S.left source.new) piece) }
+    ensures err { OnErr result ((piece : List ℕ) × Consumes (S.left source.old) (S.left source.new) piece
+        × (length piece ≤ length buffer.old)) }
     ensures later { S.faults source.old ≤ S.faults source.new }
 {
     match source.take(buffer) {
@@ -188,10 +189,10 @@ fn exchange<A: Responder, S: Source, K: Sink, E: Sink>(
 ) -> Result<SessionOver<A::End>, Fault<A::End>>
     requires text { IsPacketText init.now }
     requires fed { talk.old.held.held ≡ [] }
-    ensures ok { IfOk result (λ over. IsServed A.step talk.old.session talk.new.session init.now over
+    ensures ok { IfOk result (λ over. IsConversed A.step talk.old.session talk.new.session init.now over
         (change S.left S.faults source.old source.new) (change K.taken K.faults sink.old sink.new)
         (change E.taken E.faults out.old out.new)) }
-    ensures cut { IfErr result (λ fault. IsCut A.step talk.old.session talk.new.session init.now fault
+    ensures cut { IfErr result (λ fault. IsConversationCut A.step talk.old.session talk.new.session init.now fault
         (change S.left S.faults source.old source.new) (change K.taken K.faults sink.old sink.new)
         (change E.taken E.faults out.old out.new)) }
     ensures source_later { S.faults source.old ≤ S.faults source.new }
@@ -233,10 +234,10 @@ pub fn converse<A: Responder + Drop, S: Source, K: Sink, E: Sink>(
     out: &mut E,
 ) -> (Result<SessionOver<A::End>, Fault<A::End>>, A)
     requires { IsPacketText init.now }
-    ensures ok { IfOk result.0 (λ over. IsServed A.step session result.1 init.now over
+    ensures ok { IfOk result.0 (λ over. IsConversed A.step session result.1 init.now over
         (change S.left S.faults source.old source.new) (change K.taken K.faults sink.old sink.new)
         (change E.taken E.faults out.old out.new)) }
-    ensures cut { IfErr result.0 (λ fault. IsCut A.step session result.1 init.now fault
+    ensures cut { IfErr result.0 (λ fault. IsConversationCut A.step session result.1 init.now fault
         (change S.left S.faults source.old source.new) (change K.taken K.faults sink.old sink.new)
         (change E.taken E.faults out.old out.new)) }
     ensures source_later { S.faults source.old ≤ S.faults source.new }

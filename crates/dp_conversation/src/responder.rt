@@ -1,5 +1,5 @@
 //! What answers commands.
-ghost use Rattle.std.specs.Prelude.{◌≡◌, IfOk, List, ℕ};
+ghost use Rattle.std.specs.Prelude.{◌≡◌, Bool, IfOk, List, OnErr, OnOk, false, true, ℕ};
 ghost use Rattle.std.specs.List.{AllByRecursion};
 ghost use Rattle.dp_wire.specs.Frames.{IsCommand, IsPacketText};
 ghost use Rattle.dp_conversation.specs.Folds.{Reply, reply_of};
@@ -26,9 +26,14 @@ pub trait Responder {
     /// What a command leads to.
     ghost step: { Self → List ℕ → Reply Self Self.End };
 
-    /// Answers one command, without its NUL. Once memory ran out it has failed for good: nothing is said of it then.
+    /// Whether memory has run out: then it answers nothing more.
+    ghost failed: { Self → Bool };
+
+    /// Answers one command, without its NUL. Where memory runs out it has failed for good, and no later call answers.
     fn answer(&mut self, alloc: Global, line: &[u8]) -> Result<Answer<Self::End>, Memory>
         requires { IsCommand line.now }
         ensures ok { IfOk result (λ answer. reply_of answer self.new ≡ step self.old line.now) }
-        ensures are_texts { IfOk result (λ answer. AllByRecursion IsPacketText answer.packets) };
+        ensures are_texts { IfOk result (λ answer. AllByRecursion IsPacketText answer.packets) }
+        ensures fails { OnErr result (failed self.new ≡ true) }
+        ensures stays { OnOk result (failed self.old ≡ false) };
 }

@@ -1,11 +1,10 @@
 -- A session that goes on over a link: what was read so far, what of it is held, and what it has led
 -- to. Only the proof of serving speaks of these.
-use Rattle.std.specs.Prelude.{◌≡◌, ℕ, ◌<◌, ◌≤◌, List, ◌++◌, length, Option, None, Some}
+use Rattle.std.specs.Prelude.{◌≡◌, ℕ, ◌<◌, ◌≤◌, List, [], ◌++◌, length, Option, None, Some}
 use Rattle.std.specs.List.{flat_map, AllByRecursion}
 use Rattle.std.specs.Io.KnownBytes.{Appends, Consumes, Keeps, IsAtEnd}
 use Rattle.dp_outside.specs.Causes.{Rose}
 use Rattle.dp_outside.specs.Changes.{Change}
-use Rattle.dp_outside.specs.Streams.{AppendsFront}
 use Rattle.dp_wire.specs.Frames.{IsCommand, command_frame, commands_in, packet_frame, IsPartialCommand, BeginsNoCommand}
 use Rattle.dp_conversation.specs.declared.link.Fault.{Fault}
 use Rattle.dp_conversation.specs.declared.link.Fault.TheVariants.{Write, Out, Memory}
@@ -15,8 +14,8 @@ use Rattle.dp_conversation.specs.declared.link.SessionOver.{SessionOver}
 use Rattle.dp_conversation.specs.declared.link.Piece.{Piece}
 use Rattle.dp_conversation.specs.declared.link.Piece.TheVariants.{Came, End, Failed}
 use Rattle.dp_conversation.specs.declared.responder.Answer.{Answer}
-use Rattle.dp_conversation.specs.Folds.{Reply, replies, reply_of}
-use Rattle.dp_conversation.specs.Service.{EndsBy, CutBy, IsLeftIn, IsReadUpTo}
+use Rattle.dp_conversation.specs.Folds.{Reply, nothing_sent, replies, reply_of}
+use Rattle.dp_conversation.specs.Service.{ConversationCutBy, ConversationEndsBy, SendsPast, IsLeftIn, IsReadUpTo, byte_limit}
 
 -- These commands were taken from the bytes read, and what follows them is held. However the bytes
 -- go on, they stay the first commands.
@@ -38,8 +37,8 @@ pub record DeliversAnswer {E : Type 0} (answer : Answer E) (sink out : Change) :
 -- a fault left this of an answer, whatever the session knows then (a number stands for that)
 pub record CutsAnswer {E : Type 0} (answer : Answer E) (fault : Fault E)
     (sink out : Change) : Type 0 where
-  pub sent : AppendsFront sink.told_before sink.told (flat_map packet_frame answer.packets)
-  pub by : CutBy {S = ℕ} fault (reply_of answer 0) sink out
+  pub sent : SendsPast {S = ℕ} {E = E} [] (nothing_sent 0) (reply_of answer 0) sink
+  pub by : ConversationCutBy {S = ℕ} fault [] (nothing_sent 0) (reply_of answer 0) sink out
 
 -- why no further command is answered
 abbrev pub StopsBy : {E : Type 0} → Pause E → Option E → List ℕ → Type 0
@@ -61,16 +60,20 @@ pub record AnswersHeld {S E : Type 0} (step : S → List ℕ → Reply S E) (sta
   pub reached : Reached step start state held rest sink out
   pub stops : StopsBy answer (replies step start reached.taken).ended rest
 
--- A fault cut the answering of these commands short: the first ones were taken.
+-- A fault cut the answering of these commands short: the first ones were answered whole, and at
+-- most one more was taken.
 pub record CutsShort {S E : Type 0} (step : S → List ℕ → Reply S E) (start state : S)
     (lines : List (List ℕ)) (fault : Fault E) (sink out : Change) : Type 0 where
-  pub taken : List (List ℕ)
+  pub done : List (List ℕ)
+  pub last : List (List ℕ)
   pub later : List (List ℕ)
-  pub first : lines ≡ taken ++ later
-  pub sent : AppendsFront sink.told_before sink.told
-      (flat_map packet_frame (replies step start taken).packets)
-  pub is_state : IsLeftIn fault (replies step start taken).state state
-  pub by : CutBy fault (replies step start taken) sink out
+  pub first : lines ≡ (done ++ last) ++ later
+  pub one : length last ≤ 1
+  pub goes_on : (replies step start done).ended ≡ None
+  pub sent : SendsPast [] (replies step start done) (replies step start (done ++ last)) sink
+  pub is_state : IsLeftIn fault (replies step start (done ++ last)).state state
+  pub by : ConversationCutBy fault [] (replies step start done)
+      (replies step start (done ++ last)) sink out
 
 -- why the first packet was not sent
 abbrev pub OpenFault : {E : Type 0} → Fault E → Change → Type 0
@@ -106,6 +109,7 @@ pub record Converses {S E : Type 0} (step : S → List ℕ → Reply S E) (start
     (init : List ℕ) (over : SessionOver E) (source sink out : Change) : Type 0 where
   pub read : List ℕ
   pub held : List ℕ
+  pub within : length read ≤ byte_limit
   pub up_to : IsReadUpTo step start read
   pub talk : Conversation step start state init read held source sink out
-  pub ends : EndsBy over (replies step start talk.taken).ended held read source
+  pub ends : ConversationEndsBy over (replies step start talk.taken).ended held read source

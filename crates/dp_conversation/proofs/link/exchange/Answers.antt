@@ -7,7 +7,7 @@ use Rattle.dp_outside.specs.Changes.{change}
 use Rattle.dp_conversation.specs.inner.Exchanges.{Conversation}
 use Rattle.dp_conversation.specs.Folds.{replies}
 use Rattle.dp_conversation.proofs.CutLaws.{cut_answering, cut_at_start, cut_reading}
-use Rattle.dp_conversation.proofs.EndLaws.{goes_on_still, is_served, read_up_to}
+use Rattle.dp_conversation.proofs.EndLaws.{is_served, read_up_to}
 use Rattle.dp_conversation.proofs.ServiceLaws.{talk_first, talk_kept, talk_goes_on, talk_same}
 use Rattle.dp_conversation.proofs.link.exchange.Goals as goal
 
@@ -45,8 +45,6 @@ returns-in-Failed-clause-ok g c =
     (change g.K.Sink.taken g.K.Sink.faults c.args.sink.now c.pieces.sink)
     (change g.E.Sink.taken g.E.Sink.faults c.args.out.now c.pieces.out)
     c.in_ok-read_piece.ensures.session inv.5.2.0 inv.5.2.1 in
-    let still = goes_on_still g.A.Responder.step c.args.talk.now.session inv.5.0 c.pieces.talk.held.held talk.0.taken
-    talk.0.place talk.1 inv.4 in
     let kept = talk_kept g.A.Responder.step g.S.Source.left g.S.Source.faults g.K.Sink.taken g.K.Sink.faults
     g.E.Sink.taken g.E.Sink.faults
     _ _ _ inv.5.0 c.pieces.talk.held.held c.read_piece.new.talk.held.held c.args.source.now c.pieces.source
@@ -54,15 +52,17 @@ returns-in-Failed-clause-ok g c =
     is_served g.A.Responder.step _ _ _ _ _ _ _ (record {
       read = inv.5.0;
       held = c.read_piece.new.talk.held.held;
+      within = omega (arith, inv.3, inv.5.1);
       up_to =
-          read_up_to g.A.Responder.step c.args.talk.now.session inv.5.0 [] inv.5.0 (sym (append-nil inv.5.0))
-          (omega arith) still;
+          read_up_to g.A.Responder.step c.args.talk.now.session inv.5.0 c.pieces.talk.held.held [] inv.5.0 talk.0.taken
+          talk.0.place talk.1 inv.4 (sym (append-nil inv.5.0)) (omega arith);
       talk = kept.0;
       ends = (
         ap (λ l. (replies g.A.Responder.step c.args.talk.now.session l).ended) kept.1
             ∙ talk.1,
         subst IsPartialCommand (sym piece.2) inv.4,
         omega (arith, piece.1, inv.0),
+        omega (arith, inv.5.1),
       );
     })
 
@@ -76,8 +76,6 @@ returns-in-End-clause-ok g c =
     (change g.K.Sink.taken g.K.Sink.faults c.args.sink.now c.pieces.sink)
     (change g.E.Sink.taken g.E.Sink.faults c.args.out.now c.pieces.out)
     c.in_ok-read_piece.ensures.session inv.5.2.0 inv.5.2.1 in
-    let still = goes_on_still g.A.Responder.step c.args.talk.now.session inv.5.0 c.pieces.talk.held.held talk.0.taken
-    talk.0.place talk.1 inv.4 in
     let kept = talk_kept g.A.Responder.step g.S.Source.left g.S.Source.faults g.K.Sink.taken g.K.Sink.faults
     g.E.Sink.taken g.E.Sink.faults
     _ _ _ inv.5.0 c.pieces.talk.held.held c.read_piece.new.talk.held.held c.args.source.now c.pieces.source
@@ -85,15 +83,17 @@ returns-in-End-clause-ok g c =
     is_served g.A.Responder.step _ _ _ _ _ _ _ (record {
       read = inv.5.0;
       held = c.read_piece.new.talk.held.held;
+      within = omega (arith, inv.3, inv.5.1);
       up_to =
-          read_up_to g.A.Responder.step c.args.talk.now.session inv.5.0 [] inv.5.0 (sym (append-nil inv.5.0))
-          (omega arith) still;
+          read_up_to g.A.Responder.step c.args.talk.now.session inv.5.0 c.pieces.talk.held.held [] inv.5.0 talk.0.taken
+          talk.0.place talk.1 inv.4 (sym (append-nil inv.5.0)) (omega arith);
       talk = kept.0;
       ends = (
         ap (λ l. (replies g.A.Responder.step c.args.talk.now.session l).ended) kept.1
             ∙ talk.1,
         subst IsPartialCommand (sym piece.2) inv.4,
         piece.1,
+        omega (arith, inv.5.1),
       );
     })
 
@@ -108,8 +108,6 @@ returns-in-Ended-clause-ok g c =
     (change g.K.Sink.taken g.K.Sink.faults c.args.sink.now c.pieces.sink)
     (change g.E.Sink.taken g.E.Sink.faults c.args.out.now c.pieces.out)
     c.in_ok-read_piece.ensures.session inv.5.2.0 inv.5.2.1 in
-    let still = goes_on_still g.A.Responder.step c.args.talk.now.session inv.5.0 c.pieces.talk.held.held talk.0.taken
-    talk.0.place talk.1 inv.4 in
     let after = talk_goes_on g.A.Responder.step g.S.Source.left g.S.Source.faults g.K.Sink.taken g.K.Sink.faults
     g.E.Sink.taken g.E.Sink.faults
     _ _ _ _ inv.5.0 c.pieces.talk.held.held c.read_piece.new.talk.held.held piece.2.0 c.answer_held.new.talk.held.held
@@ -120,8 +118,18 @@ returns-in-Ended-clause-ok g c =
     is_served g.A.Responder.step _ _ _ _ _ _ _ (record {
       read = inv.5.0 ++ piece.2.0;
       held = c.answer_held.new.talk.held.held;
-      up_to = read_up_to g.A.Responder.step c.args.talk.now.session inv.5.0 piece.2.0 (inv.5.0 ++ piece.2.0) refl
-          (omega (arith, piece.1, piece.2.3, c.min-room.ensures, length-take c.min-room.result c.pieces.buffer)) still;
+      within = omega (
+        arith,
+        piece.1,
+        piece.2.3,
+        inv.5.1,
+        c.min-room.ensures,
+        length-append inv.5.0 piece.2.0,
+        length-take c.min-room.result c.pieces.buffer,
+      );
+      up_to = read_up_to g.A.Responder.step c.args.talk.now.session inv.5.0 c.pieces.talk.held.held piece.2.0
+          (inv.5.0 ++ piece.2.0) talk.0.taken talk.0.place talk.1 inv.4 refl
+          (omega (arith, piece.1, piece.2.3, c.min-room.ensures, length-take c.min-room.result c.pieces.buffer));
       talk = after.0;
       ends = after.1 ∙ stops;
     })
@@ -157,8 +165,6 @@ returns-in-TooLong-clause-ok g c =
     (change g.K.Sink.taken g.K.Sink.faults c.args.sink.now c.pieces.sink)
     (change g.E.Sink.taken g.E.Sink.faults c.args.out.now c.pieces.out)
     c.in_ok-read_piece.ensures.session inv.5.2.0 inv.5.2.1 in
-    let still = goes_on_still g.A.Responder.step c.args.talk.now.session inv.5.0 c.pieces.talk.held.held talk.0.taken
-    talk.0.place talk.1 inv.4 in
     let after = talk_goes_on g.A.Responder.step g.S.Source.left g.S.Source.faults g.K.Sink.taken g.K.Sink.faults
     g.E.Sink.taken g.E.Sink.faults
     _ _ _ _ inv.5.0 c.pieces.talk.held.held c.read_piece.new.talk.held.held piece.2.0 c.answer_held.new.talk.held.held
@@ -169,8 +175,18 @@ returns-in-TooLong-clause-ok g c =
     is_served g.A.Responder.step _ _ _ _ _ _ _ (record {
       read = inv.5.0 ++ piece.2.0;
       held = c.answer_held.new.talk.held.held;
-      up_to = read_up_to g.A.Responder.step c.args.talk.now.session inv.5.0 piece.2.0 (inv.5.0 ++ piece.2.0) refl
-          (omega (arith, piece.1, piece.2.3, c.min-room.ensures, length-take c.min-room.result c.pieces.buffer)) still;
+      within = omega (
+        arith,
+        piece.1,
+        piece.2.3,
+        inv.5.1,
+        c.min-room.ensures,
+        length-append inv.5.0 piece.2.0,
+        length-take c.min-room.result c.pieces.buffer,
+      );
+      up_to = read_up_to g.A.Responder.step c.args.talk.now.session inv.5.0 c.pieces.talk.held.held piece.2.0
+          (inv.5.0 ++ piece.2.0) talk.0.taken talk.0.place talk.1 inv.4 refl
+          (omega (arith, piece.1, piece.2.3, c.min-room.ensures, length-take c.min-room.result c.pieces.buffer));
       talk = after.0;
       ends = (
         after.1 ∙ stops.0,
@@ -198,8 +214,6 @@ pieces-preserved g c =
     (change g.K.Sink.taken g.K.Sink.faults c.args.sink.now c.pieces.sink)
     (change g.E.Sink.taken g.E.Sink.faults c.args.out.now c.pieces.out)
     c.in_ok-read_piece.ensures.session inv.5.2.0 inv.5.2.1 in
-    let still = goes_on_still g.A.Responder.step c.args.talk.now.session inv.5.0 c.pieces.talk.held.held talk.0.taken
-    talk.0.place talk.1 inv.4 in
     let after = talk_goes_on g.A.Responder.step g.S.Source.left g.S.Source.faults g.K.Sink.taken g.K.Sink.faults
     g.E.Sink.taken g.E.Sink.faults
     _ _ _ _ inv.5.0 c.pieces.talk.held.held c.read_piece.new.talk.held.held piece.2.0 c.answer_held.new.talk.held.held
@@ -222,14 +236,13 @@ pieces-preserved g c =
 pub returns-clause-ok : goal.returns-clause-ok
 returns-clause-ok g c =
     let inv = c.pieces.invariant in
-    let still = goes_on_still g.A.Responder.step c.args.talk.now.session inv.5.0 c.pieces.talk.held.held inv.5.2.0.taken
-    inv.5.2.0.place inv.5.2.1 inv.4 in
     is_served g.A.Responder.step _ _ _ _ _ _ _ (record {
       read = inv.5.0;
       held = c.pieces.talk.held.held;
+      within = omega (arith, inv.3, inv.5.1);
       up_to =
-          read_up_to g.A.Responder.step c.args.talk.now.session inv.5.0 [] inv.5.0 (sym (append-nil inv.5.0))
-          (omega arith) still;
+          read_up_to g.A.Responder.step c.args.talk.now.session inv.5.0 c.pieces.talk.held.held [] inv.5.0
+          inv.5.2.0.taken inv.5.2.0.place inv.5.2.1 inv.4 (sym (append-nil inv.5.0)) (omega arith);
       talk = inv.5.2.0;
       ends = (inv.5.2.1, inv.4, omega (arith, inv.5.1));
     })
@@ -259,7 +272,16 @@ returns-in_err-read_piece-clause-cut g c =
     g.S.Source.faults
     c.args.talk.now.session c.read_piece.new.talk.session c.args.init.now inv.5.0 c.pieces.talk.held.held read.0
     c.args.source.now c.pieces.source c.read_piece.new.source
-    c.args.sink.now c.pieces.sink c.args.out.now c.pieces.out talk.0 talk.1 read.1 inv.1 inv.2)
+    c.args.sink.now c.pieces.sink c.args.out.now c.pieces.out talk.0 talk.1 inv.4
+    (omega (
+      arith,
+      read.2,
+      inv.5.1,
+      c.min-room.ensures,
+      length-append inv.5.0 read.0,
+      length-take c.min-room.result c.pieces.buffer,
+    )) (omega (arith, read.2, c.min-room.ensures, length-take c.min-room.result c.pieces.buffer))
+    read.1 inv.1 inv.2)
 
 pub returns-in_err-end-clause-cut : goal.returns-in_err-end-clause-cut
 returns-in_err-end-clause-cut g c =
@@ -272,8 +294,6 @@ returns-in_err-end-clause-cut g c =
     (change g.K.Sink.taken g.K.Sink.faults c.args.sink.now c.pieces.sink)
     (change g.E.Sink.taken g.E.Sink.faults c.args.out.now c.pieces.out)
     c.in_ok-read_piece.ensures.session inv.5.2.0 inv.5.2.1 in
-    let still = goes_on_still g.A.Responder.step c.args.talk.now.session inv.5.0 c.pieces.talk.held.held talk.0.taken
-    talk.0.place talk.1 inv.4 in
     rw (p.1, p.2)
     (cut_answering g.A.Responder.step g.K.Sink.taken g.K.Sink.faults g.E.Sink.taken g.E.Sink.faults g.S.Source.left
     g.S.Source.faults
@@ -281,4 +301,14 @@ returns-in_err-end-clause-cut g c =
     c.pieces.talk.held.held c.read_piece.new.talk.held.held piece.2.0 _
     c.args.source.now c.pieces.source c.read_piece.new.source c.args.sink.now c.pieces.sink c.answer_held.new.sink
     c.args.out.now c.pieces.out c.answer_held.new.out
-    talk.0 talk.1 piece.2.1 piece.2.2 inv.1 inv.2 c.in_err-end.ensures.cut)
+    talk.0 talk.1 inv.4
+    (omega (
+      arith,
+      piece.1,
+      piece.2.3,
+      inv.5.1,
+      c.min-room.ensures,
+      length-append inv.5.0 piece.2.0,
+      length-take c.min-room.result c.pieces.buffer,
+    )) (omega (arith, piece.1, piece.2.3, c.min-room.ensures, length-take c.min-room.result c.pieces.buffer))
+    piece.2.1 piece.2.2 inv.1 inv.2 c.in_err-end.ensures.cut)
