@@ -1,11 +1,11 @@
 -- The features of an engine: DBGp 1.0, "feature_get", "feature_set". Which of them can be set, and
 -- to what, is this engine's own where the standard leaves it open.
-use Rattle.std.specs.Prelude.{◌≤◌, ℕ, nat_le, Bool, not, ◌&&◌, List, [], ◌∷◌, Option, Some, None, IfSome, if◌then◌else◌, option_map, option_and_then, codes, decimal}
+use Rattle.std.specs.Prelude.{◌≤◌, ℕ, ◌==◌, nat_le, Bool, not, ◌&&◌, List, [], ◌∷◌, Option, Some, None, IfSome, if◌then◌else◌, option_map, option_and_then, codes, decimal}
 use Rattle.std.specs.List.{find}
 use Rattle.std.specs.Str.{bytes_eq}
 use Rattle.dp_value.specs.Decimals.{decimal_in}
 use Rattle.dp_features.specs.declared.feature.Feature.{Feature}
-use Rattle.dp_features.specs.declared.feature.Feature.TheVariants.{LanguageSupportsThreads, LanguageName, LanguageVersion, Encoding, ProtocolVersion, SupportsAsync, DataEncoding, BreakpointLanguages, BreakpointTypes, MultipleSessions, MaxChildren, MaxData, MaxDepth, ShowHidden, NotifyOk, SupportsPostmortem}
+use Rattle.dp_features.specs.declared.feature.Feature.TheVariants.{LanguageSupportsThreads, LanguageName, LanguageVersion, Encoding, ProtocolVersion, SupportsAsync, DataEncoding, BreakpointLanguages, BreakpointTypes, MultipleSessions, MaxChildren, MaxData, MaxDepth, ShowHidden, NotifyOk, ResolvedBreakpoints, SupportsPostmortem}
 
 -- ---- names
 
@@ -25,13 +25,15 @@ name_of MaxData = codes "max_data"
 name_of MaxDepth = codes "max_depth"
 name_of ShowHidden = codes "show_hidden"
 name_of NotifyOk = codes "notify_ok"
+name_of ResolvedBreakpoints = codes "resolved_breakpoints"
 name_of SupportsPostmortem = codes "supports_postmortem"
 
 abbrev pub every_feature : List Feature
 every_feature =
     LanguageSupportsThreads ∷ LanguageName ∷ LanguageVersion ∷ Encoding ∷ ProtocolVersion
     ∷ SupportsAsync ∷ DataEncoding ∷ BreakpointLanguages ∷ BreakpointTypes ∷ MultipleSessions
-    ∷ MaxChildren ∷ MaxData ∷ MaxDepth ∷ ShowHidden ∷ NotifyOk ∷ SupportsPostmortem ∷ []
+    ∷ MaxChildren ∷ MaxData ∷ MaxDepth ∷ ShowHidden ∷ NotifyOk ∷ ResolvedBreakpoints
+    ∷ SupportsPostmortem ∷ []
 
 -- the feature of this name, with regard to case
 unfoldable pub feature_named : List ℕ → Option Feature
@@ -59,6 +61,7 @@ pub record Features : Type 0 where
   pub max_depth : ℕ
   pub show_hidden : ℕ
   pub notify_ok : ℕ
+  pub resolved_breakpoints : ℕ
 
 -- what a session begins with
 abbrev pub defaults : Features
@@ -69,6 +72,7 @@ defaults = record {
   max_depth = 1;
   show_hidden = 0;
   notify_ok = 0;
+  resolved_breakpoints = 0;
 }
 
 -- the value that is reported
@@ -88,6 +92,7 @@ value_of features MaxData = decimal features.max_data
 value_of features MaxDepth = decimal features.max_depth
 value_of features ShowHidden = decimal features.show_hidden
 value_of features NotifyOk = decimal features.notify_ok
+value_of features ResolvedBreakpoints = decimal features.resolved_breakpoints
 value_of features SupportsPostmortem = codes "0"
 
 -- ---- what may be set
@@ -108,6 +113,7 @@ range_of MaxData = Some (0, shown_limit)
 range_of MaxDepth = Some (0, depth_limit)
 range_of ShowHidden = Some (0, 1)
 range_of NotifyOk = Some (0, 1)
+range_of ResolvedBreakpoints = Some (0, 1)
 range_of feature = None
 
 -- the number is in the feature's range, where it has one
@@ -147,6 +153,8 @@ with_number MaxData number features = record features { max_data = number }
 with_number MaxDepth number features = record features { max_depth = number }
 with_number ShowHidden number features = record features { show_hidden = number }
 with_number NotifyOk number features = record features { notify_ok = number }
+with_number ResolvedBreakpoints number features =
+    record features { resolved_breakpoints = number }
 with_number feature number features = features
 
 abbrev pub with_setting : Feature × ℕ → Features → Features
@@ -160,3 +168,14 @@ pub record AreInRange (features : Features) : Type 0 where
   pub max_depth : IsInRange MaxDepth features.max_depth
   pub show_hidden : IsInRange ShowHidden features.show_hidden
   pub notify_ok : IsInRange NotifyOk features.notify_ok
+  pub resolved_breakpoints : IsInRange ResolvedBreakpoints features.resolved_breakpoints
+
+-- ---- what is switched on
+
+-- a breakpoint on a line without code goes to the next line that has code
+abbrev pub resolves : Features → Bool
+resolves features = features.resolved_breakpoints == 1
+
+-- the IDE takes news that it did not ask for
+abbrev pub notifies : Features → Bool
+notifies features = features.notify_ok == 1

@@ -28,10 +28,11 @@ pub enum Feature {
     MaxDepth,
     ShowHidden,
     NotifyOk,
+    ResolvedBreakpoints,
     SupportsPostmortem,
 }
 
-const EVERY: [Feature; 16] = [
+const EVERY: [Feature; 17] = [
     Feature::LanguageSupportsThreads,
     Feature::LanguageName,
     Feature::LanguageVersion,
@@ -47,6 +48,7 @@ const EVERY: [Feature; 16] = [
     Feature::MaxDepth,
     Feature::ShowHidden,
     Feature::NotifyOk,
+    Feature::ResolvedBreakpoints,
     Feature::SupportsPostmortem,
 ];
 
@@ -91,6 +93,7 @@ impl Feature {
             Feature::MaxDepth => b"max_depth",
             Feature::ShowHidden => b"show_hidden",
             Feature::NotifyOk => b"notify_ok",
+            Feature::ResolvedBreakpoints => b"resolved_breakpoints",
             Feature::SupportsPostmortem => b"supports_postmortem",
         }
     }
@@ -101,7 +104,10 @@ impl Feature {
         ensures bound { IfSome result (λ range. range.1 ≤ spec.shown_limit) }
     {
         match self {
-            Feature::MultipleSessions | Feature::ShowHidden | Feature::NotifyOk => Some((0, 1)),
+            Feature::MultipleSessions
+            | Feature::ShowHidden
+            | Feature::NotifyOk
+            | Feature::ResolvedBreakpoints => Some((0, 1)),
             Feature::MaxChildren => Some((1, SHOWN_LIMIT)),
             Feature::MaxData => Some((0, SHOWN_LIMIT)),
             Feature::MaxDepth => Some((0, DEPTH_LIMIT)),

@@ -14,8 +14,8 @@ const DEFAULT_CHILDREN: u32 = 32;
 /// The most bytes of a text that are shown, if none is set.
 const DEFAULT_DATA: u32 = 1024;
 
-/// The features that are set to numbers, each within its range. `multiple_sessions`, `show_hidden`
-/// and `notify_ok` are kept and change nothing else.
+/// The features that are set to numbers, each within its range. `multiple_sessions` and `show_hidden`
+/// are kept and change nothing else.
 #[derive(Clone, Copy, Debug)]
 pub struct Features {
     /// 0 or 1.
@@ -30,6 +30,8 @@ pub struct Features {
     show_hidden: u32,
     /// 0 or 1.
     notify_ok: u32,
+    /// 0 or 1.
+    resolved_breakpoints: u32,
 }
 
 impl Model for Features {
@@ -44,6 +46,7 @@ impl Model for Features {
       max_depth = f.max_depth;
       show_hidden = f.show_hidden;
       notify_ok = f.notify_ok;
+      resolved_breakpoints = f.resolved_breakpoints;
     } };
 
     ghost inverse = { λ v. record {
@@ -53,6 +56,7 @@ impl Model for Features {
       max_depth = v.max_depth;
       show_hidden = v.show_hidden;
       notify_ok = v.notify_ok;
+      resolved_breakpoints = v.resolved_breakpoints;
     } };
 
     ghost invariant = { λ f. AreInRange (record {
@@ -62,6 +66,7 @@ impl Model for Features {
       max_depth = f.max_depth;
       show_hidden = f.show_hidden;
       notify_ok = f.notify_ok;
+      resolved_breakpoints = f.resolved_breakpoints;
     }) };
 }
 
@@ -87,6 +92,7 @@ impl Features {
             max_depth: 1,
             show_hidden: 0,
             notify_ok: 0,
+            resolved_breakpoints: 0,
         }
     }
 
@@ -111,6 +117,7 @@ impl Features {
             Feature::MaxDepth => text_of(alloc, self.max_depth),
             Feature::ShowHidden => text_of(alloc, self.show_hidden),
             Feature::NotifyOk => text_of(alloc, self.notify_ok),
+            Feature::ResolvedBreakpoints => text_of(alloc, self.resolved_breakpoints),
             Feature::SupportsPostmortem => Bytes::from_slice(alloc, b"0"),
         }
     }
@@ -140,6 +147,20 @@ impl Features {
         self.max_depth
     }
 
+    /// Whether a breakpoint on a line without code goes to the next line that has code. Takes no memory.
+    pub fn resolves(&self) -> bool
+        ensures { result ≡ spec.resolves self.now }
+    {
+        self.resolved_breakpoints == 1
+    }
+
+    /// Whether the IDE takes news that it did not ask for. Takes no memory.
+    pub fn notifies(&self) -> bool
+        ensures { result ≡ spec.notifies self.now }
+    {
+        self.notify_ok == 1
+    }
+
     /// The features with one set. The encoding, of which there is one, stays. Takes no memory.
     pub fn with(self, setting: Setting) -> Self
         ensures { result ≡ spec.with_setting setting self }
@@ -153,6 +174,7 @@ impl Features {
             Feature::MaxDepth => features.max_depth = number,
             Feature::ShowHidden => features.show_hidden = number,
             Feature::NotifyOk => features.notify_ok = number,
+            Feature::ResolvedBreakpoints => features.resolved_breakpoints = number,
             _ => {}
         }
         features

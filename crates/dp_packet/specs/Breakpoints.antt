@@ -49,11 +49,17 @@ abbrev pub hit_attributes : BreakLine → Attributes
 hit_attributes b =
     count_attributes b ++ rule_attribute b.hit_rule ∷ (codes "temporary", flag b.temporary) ∷ []
 
+-- whether its line is what the engine made of the one that was asked for: what is not says nothing
+abbrev pub resolved_attribute : Bool → Attributes
+resolved_attribute true = (codes "resolved", codes "resolved") ∷ []
+resolved_attribute false = []
+
 abbrev pub expression_nodes : Option Text → List Node
 expression_nodes None = []
 expression_nodes (Some text) = child (codes "expression") [] (text_nodes text) ∷ []
 
 abbrev pub breakpoint_node : BreakLine → Node
 breakpoint_node b =
-    child (codes "breakpoint") (kind_attributes b ++ place_attributes b ++ hit_attributes b)
+    child (codes "breakpoint")
+    (kind_attributes b ++ place_attributes b ++ hit_attributes b ++ resolved_attribute b.resolved)
     (expression_nodes b.expression)

@@ -42,6 +42,17 @@ fn hit_size(line: &BreakLine) -> u64
         .saturating_add(flag_size(b"temporary", line.temporary))
 }
 
+/// The size of the attribute `resolved` of a breakpoint that is resolved, 0 of one that is not.
+fn resolved_size(resolved: bool) -> u64
+    ensures { result ≡ counted (attributes_size (spec.resolved_attribute resolved)) }
+{
+    if resolved {
+        size_of(b"resolved", b"resolved")
+    } else {
+        0
+    }
+}
+
 /// The size of the element of a breakpoint's expression, 0 where it has none.
 #[tactic(auto, using(crate::proofs::SizeLaws::child_length, crate::proofs::SizeLaws::alone_length, crate::proofs::SizeLaws::text_length))]
 fn expression_size(expression: &Option<Bytes>) -> u64
@@ -60,7 +71,8 @@ pub fn break_size(line: &BreakLine) -> u64
 {
     let attributes = kind_size(line)
         .saturating_add(place_size(line))
-        .saturating_add(hit_size(line));
+        .saturating_add(hit_size(line))
+        .saturating_add(resolved_size(line.resolved));
     element_size(b"breakpoint", attributes, expression_size(&line.expression))
 }
 

@@ -110,6 +110,22 @@ fn put_hits(
     Ok(())
 }
 
+/// Puts the attribute `resolved` of a breakpoint that is resolved, and else nothing.
+fn put_resolved(
+    alloc: Global,
+    attributes: &mut Vec<(Bytes, Bytes)>,
+    resolved: bool,
+) -> Result<(), Memory>
+    ensures { OnOk result (attributes.new.items ≡
+        attributes.old.items ++ spec.resolved_attribute resolved) }
+{
+    if resolved {
+        put_attribute(alloc, attributes, b"resolved", b"resolved")
+    } else {
+        Ok(())
+    }
+}
+
 /// The element of a breakpoint's expression, and nothing where it has none.
 fn expression_nodes(alloc: Global, expression: &Option<Bytes>) -> Result<Vec<Node>, Memory>
     ensures { IfOk result (λ nodes. nodes.items ≡ spec.expression_nodes expression.now) }
@@ -131,6 +147,7 @@ pub(crate) fn breakpoint_of(alloc: Global, line: &BreakLine) -> Result<Node, Mem
     put_kind(alloc, &mut attributes, line)?;
     put_place(alloc, &mut attributes, line)?;
     put_hits(alloc, &mut attributes, line)?;
+    put_resolved(alloc, &mut attributes, line.resolved)?;
     let nodes = expression_nodes(alloc, &line.expression)?;
     child(alloc, b"breakpoint", attributes, nodes)
 }

@@ -83,6 +83,8 @@ pub struct BreakLine {
     pub hit_value: u32,
     pub hit_rule: HitRule,
     pub temporary: bool,
+    /// Whether its line was set by an IDE that lets the engine move it to the next line that has code.
+    pub resolved: bool,
     pub expression: Option<Bytes>,
 }
 

@@ -13,3 +13,4 @@ pub mod Reasons
 pub mod Feeds
 pub mod FileLaws
 pub mod ExpressionLaws
+pub mod LeastLines

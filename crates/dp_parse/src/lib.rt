@@ -13,6 +13,7 @@ mod jumps;
 mod levels;
 mod loop_statements;
 mod names;
+mod next_lines;
 mod parameters;
 mod statements;
 mod verdicts;
@@ -24,4 +25,5 @@ pub use dp_tree::{
 };
 pub use ended::{Body, Ended, Parts};
 pub use errors::ParseError;
+pub use next_lines::next_code;
 pub use whole::{expressions_are_exact, one_tree, parse_expression, parse_file};

@@ -1,5 +1,5 @@
 -- Stack lines, contexts and breakpoints are read as they were written.
-use Rattle.std.proofs.Common.{◌≡◌, ℕ, Bool, true, false, ◌&&◌, [], ◌∷◌, ◌++◌, Option, Some, None, refl, ap, ◌∙◌, codes, decimal, nat_le, arith}
+use Rattle.std.proofs.Common.{◌≡◌, ℕ, Bool, true, false, ◌&&◌, [], ◌∷◌, ◌++◌, Option, Some, None, refl, ap, ◌∙◌, codes, decimal, nat_le, arith, append_assoc}
 use Rattle.std.proofs.lemmas.Bool.{and_parts}
 use Rattle.dp_markup.specs.declared.tree.Element.{Element}
 use Rattle.dp_markup.specs.Grammar.{same_text, value_of}
@@ -8,10 +8,10 @@ use Rattle.dp_packet.specs.declared.packet.BreakLine.{BreakLine}
 use Rattle.dp_packet.specs.declared.packet.BreakKind.{BreakKind}
 use Rattle.dp_packet.specs.declared.packet.HitRule.{HitRule}
 use Rattle.dp_packet.specs.Parts.{Text, Attributes, element, given, text_nodes}
-use Rattle.dp_packet.specs.Breakpoints.{kind_attributes, place_attributes, hit_attributes, given_number, expression_nodes}
+use Rattle.dp_packet.specs.Breakpoints.{kind_attributes, place_attributes, hit_attributes, resolved_attribute, given_number, expression_nodes}
 use Rattle.dp_value.specs.Decimals.{decimal_in}
 use Rattle.dp_reply.specs.Contents.{◌>>=◌, flag_in, alone, words, elements, optional_number, most_32, most_64, only, text_in}
-use Rattle.dp_reply.specs.Readings.{Sort, Hits, rule_in, stack_in, context_in, sort_in, hits_in, expression_of, break_line, breakpoint_in}
+use Rattle.dp_reply.specs.Readings.{Sort, Hits, rule_in, stack_in, context_in, sort_in, hits_in, expression_of, says_resolved, break_line, breakpoint_in}
 use Rattle.dp_reply.specs.Norm.{is_within, is_stack_line, is_context, is_break_line}
 use Rattle.dp_reply.proofs.Leaves.{number_is, flag_is, kind_is, state_is, rule_is}
 use Rattle.dp_reply.proofs.Nodes.{words_text, elements_text, words_none, elements_all}
@@ -46,7 +46,8 @@ context_is c sound = ap (λ n. n >>= λ id. Some (c.0, id)) (number_is most_32 c
 
 unfoldable pub breakpoint_element : BreakLine → Element
 breakpoint_element b =
-    element (codes "breakpoint") (kind_attributes b ++ place_attributes b ++ hit_attributes b)
+    element (codes "breakpoint")
+    (kind_attributes b ++ place_attributes b ++ hit_attributes b ++ resolved_attribute b.resolved)
     (expression_nodes b.expression)
 
 -- the attributes of a place, by what they say
@@ -163,11 +164,40 @@ hits_from hits hit_value hit_rule temporary =
     hits >>= λ hits. hit_value >>= λ hit_value. hit_rule >>= λ hit_rule. temporary
     >>= λ temporary. Some (hits, hit_value, hit_rule, temporary)
 
+-- what stands behind the attributes of a place
+abbrev behind : BreakLine → Attributes
+behind b = hit_attributes b ++ resolved_attribute b.resolved
+
+-- by what stands in the attributes of a place and behind them
+by_place : (b : BreakLine) (name : Text)
+    → value_of (place_attributes b ++ hit_attributes b ++ resolved_attribute b.resolved) name
+    ≡ value_of (place_attributes b ++ behind b) name
+by_place b name =
+    ap (λ (l : Attributes). value_of l name)
+    (append_assoc (place_attributes b) (hit_attributes b) (resolved_attribute b.resolved))
+
 behind_place : (b : BreakLine) (name : Text) → same_text (codes "filename") name ≡ false
     → same_text (codes "lineno") name ≡ false → same_text (codes "function") name ≡ false
-    → value_of (place_attributes b ++ hit_attributes b) name ≡ value_of (hit_attributes b) name
+    → value_of (place_attributes b ++ hit_attributes b ++ resolved_attribute b.resolved) name ≡ value_of (behind b) name
 unfolding places
-behind_place b name x y z = beside b.uri b.line b.function (hit_attributes b) name x y z
+behind_place b name x y z = by_place b name ∙ beside b.uri b.line b.function (behind b) name x y z
+
+-- the attribute of a breakpoint that is resolved says nothing else
+nothing_else : (resolved : Bool) (name : Text) → same_text (codes "resolved") name ≡ false
+    → value_of (resolved_attribute resolved) name ≡ None
+nothing_else true name x = rw x refl
+nothing_else false name x = refl
+
+says_what_is : (resolved : Bool)
+    → says_resolved (value_of (resolved_attribute resolved) (codes "resolved")) ≡ resolved
+says_what_is true = refl
+says_what_is false = refl
+
+resolved_is : (b : BreakLine)
+    → says_resolved (value_of (place_attributes b ++ hit_attributes b ++ resolved_attribute b.resolved)
+    (codes "resolved"))
+    ≡ b.resolved
+resolved_is b = ap says_resolved (behind_place b (codes "resolved") refl refl refl) ∙ says_what_is b.resolved
 
 hits_are : (b : BreakLine) → SoundLine b
     → hits_in (breakpoint_element b) ≡ Some (b.hits, b.hit_value, b.hit_rule, b.temporary)
@@ -190,8 +220,8 @@ line_from e sort line hits expression =
     sort >>= λ sort. line >>= λ line. hits >>= λ hits. expression
     >>= λ expression. Some (break_line e sort line hits expression)
 
-at_place : BreakLine → Option Text → Option Text → BreakLine
-at_place b uri function = record {
+at_place : BreakLine → Option Text → Option Text → Bool → BreakLine
+at_place b uri function resolved = record {
   id = b.id;
   kind = b.kind;
   enabled = b.enabled;
@@ -202,6 +232,7 @@ at_place b uri function = record {
   hit_value = b.hit_value;
   hit_rule = b.hit_rule;
   temporary = b.temporary;
+  resolved = resolved;
   expression = b.expression;
 }
 
@@ -210,11 +241,15 @@ unfolding breakpoint_in breakpoint_element places at_place
 breakpoint_is b good =
     let sound = sound_line b good in
     let sort = sort_is b sound in
-    let line = ap (optional_number most_32) (line_at b.uri b.line b.function (hit_attributes b) refl)
+    let line = ap (optional_number most_32) (by_place b (codes "lineno")
+    ∙ line_at b.uri b.line b.function (behind b) (nothing_else b.resolved (codes "lineno") refl))
     ∙ line_is b.line sound.line in
     let hits = hits_are b sound in
     let expression = expression_nodes_are b.expression in
-    let uri = uri_at b.uri b.line b.function (hit_attributes b) refl in
-    let function = function_at b.uri b.line b.function (hit_attributes b) refl in
+    let uri = by_place b (codes "filename")
+    ∙ uri_at b.uri b.line b.function (behind b) (nothing_else b.resolved (codes "filename") refl) in
+    let function = by_place b (codes "function")
+    ∙ function_at b.uri b.line b.function (behind b) (nothing_else b.resolved (codes "function") refl) in
+    let resolved = resolved_is b in
     (λ i. line_from (breakpoint_element b) (sort i) (line i) (hits i) (expression i))
-    ∙ (λ i. Some (at_place b (uri i) (function i)))
+    ∙ (λ i. Some (at_place b (uri i) (function i) (resolved i)))

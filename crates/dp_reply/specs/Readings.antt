@@ -147,6 +147,11 @@ hits_in e = do
   temporary ← attribute (codes "temporary") e >>= flag_in
   Some (hits, hit_value, hit_rule, temporary)
 
+-- an attribute that is missing, or says anything else, says that a breakpoint is not resolved
+abbrev pub says_resolved : Option Text → Bool
+says_resolved None = false
+says_resolved (Some text) = same_text text (codes "resolved")
+
 abbrev pub break_line : Element → Sort → Option ℕ → Hits → Option Text → BreakLine
 break_line e sort line hits expression = record {
   id = sort.0;
@@ -159,6 +164,7 @@ break_line e sort line hits expression = record {
   hit_value = hits.1;
   hit_rule = hits.2;
   temporary = hits.3;
+  resolved = says_resolved (attribute (codes "resolved") e);
   expression = expression;
 }
 

@@ -1,11 +1,13 @@
 //! Breakpoints as they are read.
 
+ghost use Rattle.std.specs.Prelude.{◌≡◌, codes};
+ghost use Rattle.dp_reply.specs.Contents.{attribute as attribute_of};
 ghost use Rattle.dp_reply.specs.Readings as spec;
 ghost use Rattle.dp_reply.specs.Verdict.{Finds};
 
 use crate::contents::{
-    attribute, flag, is_named, number_at, number_of_32_bits_at, only_element, optional_number,
-    optional_text, text_in,
+    attribute, find, flag, is_named, number_at, number_of_32_bits_at, only_element,
+    optional_number, optional_text, text_in,
 };
 use crate::errors::ReplyError;
 use dp_markup::{Element, same_text};
@@ -81,6 +83,16 @@ fn hits_in(e: &Element) -> Result<(u64, u32, HitRule, bool), ReplyError>
     Ok((hits, hit_value, hit_rule, temporary))
 }
 
+/// Whether an element says that a breakpoint is resolved: by the one text that says so.
+fn says_resolved(e: &Element) -> bool
+    ensures { result ≡ spec.says_resolved (attribute_of (codes "resolved") e.now) }
+{
+    match find(e, b"resolved") {
+        Some(text) => same_text(text, b"resolved"),
+        None => false,
+    }
+}
+
 /// Reads the expression of a breakpoint, if it has one; refuses any other element, and text beside it.
 fn expression_in(alloc: Global, e: &Element) -> Result<Option<Bytes>, ReplyError>
     ensures { Finds (λ text. text) result (spec.expression_in e.now) }
@@ -120,6 +132,7 @@ pub(crate) fn breakpoint_in(alloc: Global, e: &Element) -> Result<BreakLine, Rep
         hit_value,
         hit_rule,
         temporary,
+        resolved: says_resolved(e),
         expression,
     })
 }
