@@ -3,17 +3,16 @@ use Rattle.std.proofs.Common.{◌≡◌, ℕ, suc, ◌+◌, ◌<◌, ◌==◌, B
 use Rattle.std.specs.Prelude.{filter}
 use Rattle.std.specs.List.{position_from}
 use Rattle.std.proofs.lemmas.Bool.{eqb-true, ne_eqb}
-use Rattle.dp_break.specs.declared.breakpoint.BreakChange.{BreakChange}
 use Rattle.dp_break.specs.declared.breakpoint.Breakpoint.{Breakpoint}
-use Rattle.dp_break.specs.Changes.{changed, held_as}
+use Rattle.dp_break.specs.Changes.{held_as}
 use Rattle.dp_break.specs.Tables.{Ascend}
 
 module _ (id : ℕ) where
   abbrev pub kept : List Breakpoint → List Breakpoint
   kept held = filter (λ b. not (b.id == id)) held
 
-  abbrev pub with_changed : BreakChange → List Breakpoint → List Breakpoint
-  with_changed c held = map (λ b. cond (b.id == id) (changed c b) b) held
+  abbrev pub with_changed : (Breakpoint → Breakpoint) → List Breakpoint → List Breakpoint
+  with_changed change held = map (λ b. cond (b.id == id) (change b) b) held
 
   -- all ids are greater
   kept_all : (least : ℕ) (held : List Breakpoint) (next : ℕ) → id < least → Ascend least held next → kept held ≡ held
@@ -24,20 +23,21 @@ module _ (id : ℕ) where
       ap (λ (t : Bool). cond (not t) (b ∷ kept held) (kept held)) other
       ∙ ap (λ l. b ∷ l) (kept_all (b.id + 1) held next (omega arith) a.1)
 
-  changed_none : (c : BreakChange) (least : ℕ) (held : List Breakpoint) (next : ℕ) → id < least → Ascend least held next
-      → with_changed c held ≡ held
-  changed_none c least [] next below a = refl
-  changed_none c least (b ∷ held) next below a =
+  changed_none : (change : Breakpoint → Breakpoint) (least : ℕ) (held : List Breakpoint) (next : ℕ) → id < least → Ascend least held next
+      → with_changed change held ≡ held
+  changed_none change least [] next below a = refl
+  changed_none change least (b ∷ held) next below a =
       let le = a.0 in
       let other : (b.id == id) ≡ false = ne_eqb b.id id (λ e. omega arith) in
-      (λ i. cond (other i) (changed c b) b ∷ changed_none c (b.id + 1) held next (omega arith) a.1 i)
+      (λ i. cond (other i) (change b) b ∷ changed_none change (b.id + 1) held next (omega arith) a.1 i)
 
   -- the breakpoint of the id stands at a place
   pub record IsFoundAt (held : List Breakpoint) (at : ℕ) : Type 0 where
     pub within : at < length held
     pub found : (d : Breakpoint) → held_as held id ≡ Some (get_or held at d)
     pub removed : take at held ++ drop (suc at) held ≡ kept held
-    pub changes : (c : BreakChange) (d : Breakpoint) → set held at (changed c (get_or held at d)) ≡ with_changed c held
+    pub changes : (change : Breakpoint → Breakpoint) (d : Breakpoint)
+        → set held at (change (get_or held at d)) ≡ with_changed change held
 
   abbrev pub IsFoundFrom : ℕ → List Breakpoint → ℕ → Type 0
   IsFoundFrom k held at = (i : ℕ) × (at ≡ k + i) × IsFoundAt held i
@@ -61,8 +61,8 @@ module _ (id : ℕ) where
                 removed =
                     sym (ap (λ (t : Bool). cond (not t) (b ∷ kept held) (kept held)) is
                     ∙ kept_all (b.id + 1) held next (omega arith) a.1);
-                changes = λ c d.
-                    sym (λ i. cond (is i) (changed c b) b ∷ changed_none c (b.id + 1) held next (omega arith) a.1 i);
+                changes = λ change d.
+                    sym (λ i. cond (is i) (change b) b ∷ changed_none change (b.id + 1) held next (omega arith) a.1 i);
               },
             )
         cases false is f later =
@@ -75,9 +75,9 @@ module _ (id : ℕ) where
                 found = λ d. ap (λ (t : Bool). cond t (Some b) (held_as held id)) is ∙ s.found d;
                 removed =
                     ap (λ l. b ∷ l) s.removed ∙ sym (ap (λ (t : Bool). cond (not t) (b ∷ kept held) (kept held)) is);
-                changes = λ c d.
-                    ap (λ l. b ∷ l) (s.changes c d)
-                    ∙ sym (ap (λ (t : Bool). cond t (changed c b) b ∷ with_changed c held) is);
+                changes = λ change d.
+                    ap (λ l. b ∷ l) (s.changes change d)
+                    ∙ sym (ap (λ (t : Bool). cond t (change b) b ∷ with_changed change held) is);
               },
             )
 

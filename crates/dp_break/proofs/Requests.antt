@@ -1,6 +1,6 @@
 -- What is accepted of requests.
-use Rattle.std.proofs.Common.{◌≡◌, ◌≢◌, ℕ, ◌<◌, ◌≤◌, ◌==◌, Bool, true, false, cond, ◌||◌, List, length, Option, Some, None, refl, sym, ap, ◌∙◌, arith}
-use Rattle.std.specs.Prelude.{is_none, is_some, nat_le, nat_lt, option_and_then, Ok, Err, IfOk, IfErr, IfSome, Result}
+use Rattle.std.proofs.Common.{◌≡◌, ◌≢◌, ℕ, ◌<◌, ◌≤◌, ◌==◌, Bool, true, false, cond, not, ◌&&◌, ◌||◌, List, length, Option, Some, None, refl, sym, ap, ◌∙◌, arith}
+use Rattle.std.specs.Prelude.{is_none, is_some, nat_le, nat_lt, option_and_then, slice_get, Ok, Err, IfOk, IfErr, IfSome, Result}
 use Rattle.std.specs.Option.{option_map_or, option_or}
 use Rattle.std.proofs.lemmas.Bool.{le-leb, leb-true, ltb-false, or_parts, true≢false}
 use Rattle.std.proofs.lemmas.Bool.Decides.{nat_tests}
@@ -17,10 +17,15 @@ use Rattle.dp_break.specs.Conditions.{condition_of, expression_limit, has_no_tre
 use Rattle.dp_break.specs.declared.errors.BreakError.{BreakError}
 use Rattle.dp_break.specs.declared.errors.BreakError.TheVariants as error
 use Rattle.dp_break.specs.Hits.{is_of_function}
-use Rattle.dp_break.specs.Refusals.{cannot_be_held, code_if, place_refusal, plain_refusal, requested_line_refusal}
-use Rattle.dp_break.specs.Tables.{IsSound, Table, breakpoint_limit, last_id}
+use Rattle.dp_break.specs.Lines.{code_in, given_line, line_kept, requested_line}
+use Rattle.dp_break.specs.Refusals.{cannot_be_held, code_if, place_kept, place_refusal, plain_refusal}
+use Rattle.dp_break.specs.Tables.{IsSound, Table, breakpoint_limit, has_parts, last_id}
 use Rattle.dp_break.specs.inner.Causes.{IsNoTree, error_of, pure_or_refused}
-use Rattle.dp_packet.specs.declared.error_codes.ErrorCode.TheVariants.{BreakpointNotSet, InvalidExpression}
+use Rattle.dp_packet.specs.declared.error_codes.ErrorCode.{ErrorCode}
+use Rattle.dp_packet.specs.declared.error_codes.ErrorCode.TheVariants.{BreakpointNotSet, InvalidBreakpointLine, InvalidExpression}
+use Rattle.dp_packet.specs.declared.packet.BreakKind.{BreakKind}
+use Rattle.dp_packet.specs.declared.packet.BreakKind.TheVariants.{Line, Call, Return, Conditional}
+use Rattle.dp_tree.specs.declared.bundle.BundleFile.{BundleFile}
 
 -- ---- expressions
 
@@ -101,13 +106,43 @@ pure_held (Some text) e h = condition_pure text e h
 
 -- ---- requests
 
-module _ (bundle : Bundle) (t : Table) (r : BreakRequest) where
-  can_be_held : place_refusal bundle t r ≡ None → cannot_be_held t r ≡ false
-  can_be_held e = cases (cannot_be_held t r) e where
-    cases : (c : Bool) → cond c (Some BreakpointNotSet) (requested_line_refusal bundle (Some r.file) r.line) ≡ None
-        → c ≡ false
+-- which parts it has does not turn on which line it has
+parts_of : (kind : BreakKind) (line other : Option ℕ) (function expression : Option (List ℕ))
+    → is_some line ≡ is_some other
+    → has_parts kind line function expression ≡ has_parts kind other function expression
+parts_of Line line other function expression same = same
+parts_of Call line other function expression same = ap (λ (b : Bool). is_some function && not b) same
+parts_of Return line other function expression same = ap (λ (b : Bool). is_some function && not b) same
+parts_of Conditional line other function expression same = refl
+
+given_some : (kept : Result ℕ ErrorCode) (line : Option ℕ) → given_line kept ≡ Ok line → is_some line ≡ true
+given_some (Ok n) line e = let same : line ≡ Some n = cc in ap is_some same
+given_some (Err code) line e = absurd cc
+
+-- a line is kept exactly where one is asked for
+kept_some : (resolve : Bool) (bundle : Bundle) (file : ℕ) (asked line : Option ℕ)
+    → requested_line resolve bundle (Some file) asked ≡ Ok line → is_some line ≡ is_some asked
+kept_some resolve bundle file None line e = let same : line ≡ None = cc in ap is_some same
+kept_some resolve bundle file (Some n) line e = cases (slice_get bundle.files file) e where
+  cases : (found : Option BundleFile)
+      → option_map_or (λ (f : BundleFile). given_line (line_kept resolve f.tree n)) found (Err InvalidBreakpointLine)
+      ≡ Ok line
+      → is_some line ≡ true
+  cases None f = absurd cc
+  cases (Some f) g = given_some (line_kept resolve f.tree n) line g
+
+module _ (resolve : Bool) (bundle : Bundle) (t : Table) (r : BreakRequest) where
+  -- a place that is kept can be held, and its line is that of the request
+  abbrev IsKept : Option ℕ → Type 0
+  IsKept line = (cannot_be_held t r ≡ false) × (requested_line resolve bundle (Some r.file) r.line ≡ Ok line)
+
+  can_be_held : (line : Option ℕ) → place_kept resolve bundle t r ≡ Ok line → IsKept line
+  can_be_held line e = cases (cannot_be_held t r) e where
+    cases : (c : Bool)
+        → cond c (Err BreakpointNotSet) (requested_line resolve bundle (Some r.file) r.line) ≡ Ok line
+        → (c ≡ false) × (requested_line resolve bundle (Some r.file) r.line ≡ Ok line)
     cases true f = absurd cc
-    cases false f = refl
+    cases false f = (refl, f)
 
   name_short : (name : Option (List ℕ)) → option_map_or (λ n. nat_lt longest_name (length n)) name false ≡ false
       → option_map_or (λ n. nat_le (length n) longest_name) name true ≡ true
@@ -120,13 +155,17 @@ module _ (bundle : Bundle) (t : Table) (r : BreakRequest) where
   has_file false true any = refl
   has_file false false any = refl
 
-  pub sound_request : (tree : Option Expression) → IsRequest bundle r → place_refusal bundle t r ≡ None
+  pub sound_request : (tree : Option Expression) (line : Option ℕ) → IsRequest bundle r
+      → place_kept resolve bundle t r ≡ Ok line
       → tree ≡ tree_of r.expression → has_no_tree r.expression ≡ false
-      → IsSound (new_breakpoint t.next tree r)
-  sound_request tree request accepted is_tree formed =
+      → IsSound (new_breakpoint t.next tree line resolve r)
+  sound_request tree line request accepted is_tree formed =
+      let kept = can_be_held line accepted in
       let free = or_parts (nat_le breakpoint_limit (length t.held) || t.next == last_id)
-      (option_map_or (λ n. nat_lt longest_name (length n)) r.function false) (can_be_held accepted) in record {
-        parts = request.parts;
+      (option_map_or (λ n. nat_lt longest_name (length n)) r.function false) kept.0 in record {
+        parts =
+            parts_of r.kind line r.line r.function r.expression
+            (kept_some resolve bundle r.file r.line line kept.1) ∙ request.parts;
         placed = has_file r.anyfile (is_of_function r.kind) request.anyfile;
         named = name_short r.function free.1;
         tree = is_tree;
@@ -134,14 +173,16 @@ module _ (bundle : Bundle) (t : Table) (r : BreakRequest) where
       }
 
   -- where no refusal is plain, nothing is sure
-  not_plain : {A : Type 0} (result : Result A BreakError) → place_refusal bundle t r ≡ None
+  not_plain : {A : Type 0} (result : Result A BreakError) → place_refusal resolve bundle t r ≡ None
       → is_too_long r.expression ≡ false
-      → IfSome (plain_refusal bundle t r) (λ code. result ≡ Err (error.Code code))
+      → IfSome (plain_refusal resolve bundle t r) (λ code. result ≡ Err (error.Code code))
   not_plain result place short =
-      let none : plain_refusal bundle t r ≡ None = (λ i. option_or (place i) (code_if (short i) InvalidExpression)) in
+      let none : plain_refusal resolve bundle t r ≡ None =
+      (λ i. option_or (place i) (code_if (short i) InvalidExpression)) in
       rw none tt
 
-  pub sure_formed : {A : Type 0} (result : Result A BreakError) → place_refusal bundle t r ≡ None
+  pub sure_formed : {A : Type 0} (result : Result A BreakError) (line : Option ℕ)
+      → place_kept resolve bundle t r ≡ Ok line
       → has_no_tree r.expression ≡ false
-      → IfSome (plain_refusal bundle t r) (λ code. result ≡ Err (error.Code code))
-  sure_formed result place formed = not_plain result place (formed_short r.expression formed)
+      → IfSome (plain_refusal resolve bundle t r) (λ code. result ≡ Err (error.Code code))
+  sure_formed result line place formed = not_plain result (ap code_in place) (formed_short r.expression formed)

@@ -14,7 +14,8 @@ use Rattle.dp_break.specs.declared.breakpoint.Breakpoint.{Breakpoint}
 use Rattle.dp_break.specs.declared.errors.BreakError.TheVariants as error
 use Rattle.dp_break.specs.Changes.{changed, held_as, line_given_or, with_change, without}
 use Rattle.dp_break.specs.Hits.{is_of_function}
-use Rattle.dp_break.specs.Refusals.{answer_of, change_refusal, requested_line_refusal, update_refusal}
+use Rattle.dp_break.specs.Lines.{line_in, requested_line}
+use Rattle.dp_break.specs.Refusals.{answer_of, change_kept, change_refusal, update_refusal}
 use Rattle.dp_break.specs.Tables.{Ascend, IsSound, IsTable, has_parts}
 use Rattle.dp_break.proofs.Lookups.{IsFoundAt, found_from, kept, missing_from, with_changed}
 use Rattle.dp_break.proofs.TableLaws.{Ascend-map, filtered_table, table}
@@ -75,38 +76,48 @@ module _ (id : ℕ) (held : List Breakpoint) (next : ℕ) where
 
     -- ---- changes
 
-    module _ (bundle : Bundle) (c : BreakChange) (b : Breakpoint) (read : b ≡ get_or held at b) where
+    module _ (resolve : Bool) (bundle : Bundle) (c : BreakChange) (b : Breakpoint) (read : b ≡ get_or held at b) where
       found_here : held_as held id ≡ Some b
       found_here = there.found b ∙ ap (λ (x : Breakpoint). Some x) (sym read)
 
-      pub change_answer : answer_of (change_refusal bundle c b) ≡ answer_of (update_refusal bundle c (held_as held id))
-      change_answer = sym (ap (λ (o : Option Breakpoint). answer_of (update_refusal bundle c o)) found_here)
+      pub change_answer : answer_of (change_refusal resolve bundle c b)
+          ≡ answer_of (update_refusal resolve bundle c (held_as held id))
+      change_answer =
+          sym (ap (λ (o : Option Breakpoint). answer_of (update_refusal resolve bundle c o)) found_here)
 
-      changes_here : set held at (changed c b) ≡ with_changed id c held
-      changes_here = ap (λ (x : Breakpoint). set held at (changed c x)) read ∙ there.changes c b
+      changes_here : set held at (changed resolve bundle c b) ≡ with_changed id (changed resolve bundle c) held
+      changes_here =
+          ap (λ (x : Breakpoint). set held at (changed resolve bundle c x)) read
+          ∙ there.changes (changed resolve bundle c) b
 
-      pub change_left : table (set held at (changed c b)) next ≡ with_change id c (table held next)
+      pub change_left : table (set held at (changed resolve bundle c b)) next
+          ≡ with_change resolve bundle id c (table held next)
       change_left = ap (λ l. table l next) changes_here
 
-      pub change_table : IsSound (changed c b) → IsTable (table (set held at (changed c b)) next)
+      pub change_table : IsSound (changed resolve bundle c b)
+          → IsTable (table (set held at (changed resolve bundle c b)) next)
       change_table sound = record {
-        few = let few = t.few in let same = length-set held at (changed c b) in omega arith;
+        few = let few = t.few in let same = length-set held at (changed resolve bundle c b) in omega arith;
         ascend =
             subst (λ l. Ascend 1 l next) (sym changes_here) (Ascend-map
-            (λ x. cond (x.id == id) (changed c x) x) same_id 1 held next t.ascend);
+            (λ x. cond (x.id == id) (changed resolve bundle c x) x) same_id 1 held next t.ascend);
         last = t.last;
-        sound = All-set IsSound held at (changed c b) sound t.sound;
+        sound = All-set IsSound held at (changed resolve bundle c b) sound t.sound;
       } where
-        same_id : (x : Breakpoint) → (cond (x.id == id) (changed c x) x).id ≡ x.id
+        same_id : (x : Breakpoint) → (cond (x.id == id) (changed resolve bundle c x) x).id ≡ x.id
         same_id x =
-            elim (x.id == id) as (λ (v : Bool). (cond v (changed c x) x).id ≡ x.id) [ true ↦ refl | false ↦ refl ]
+            elim (x.id == id) as (λ (v : Bool). (cond v (changed resolve bundle c x) x).id ≡ x.id) [
+              | true ↦ refl
+              | false ↦ refl
+            ]
 
       pub sound_here : IsSound b
       sound_here = subst IsSound (sym read) (All-get_or IsSound held at b there.within t.sound)
 
-  pub missing_answer : (bundle : Bundle) (c : BreakChange) → place ≡ None
-      → Err (error.Code NoSuchBreakpoint) ≡ answer_of (update_refusal bundle c (held_as held id))
-  missing_answer bundle c e = sym (ap (λ (o : Option Breakpoint). answer_of (update_refusal bundle c o)) (missing e).0)
+  pub missing_answer : (resolve : Bool) (bundle : Bundle) (c : BreakChange) → place ≡ None
+      → Err (error.Code NoSuchBreakpoint) ≡ answer_of (update_refusal resolve bundle c (held_as held id))
+  missing_answer resolve bundle c e =
+      sym (ap (λ (o : Option Breakpoint). answer_of (update_refusal resolve bundle c o)) (missing e).0)
 
 -- ---- soundness
 
@@ -122,17 +133,27 @@ parts_kept Return None line function expression free parts = parts
 parts_kept Return (Some given) line function expression free parts = absurd cc
 parts_kept Conditional given line function expression free parts = parts
 
-pub changed_sound : (bundle : Bundle) (c : BreakChange) (b : Breakpoint) → change_refusal bundle c b ≡ None → IsSound b
-    → IsSound (changed c b)
-changed_sound bundle c b accepted s = record {
+-- no line is kept of a change of a breakpoint on a function
+none_kept : (resolve : Bool) (bundle : Bundle) (kind : BreakKind) (file asked : Option ℕ)
+    → (is_of_function kind && is_some (line_in (cond (is_of_function kind && is_some asked) (Err InvalidOptions)
+    (requested_line resolve bundle file asked)))) ≡ false
+none_kept resolve bundle Line file asked = refl
+none_kept resolve bundle Call None None = refl
+none_kept resolve bundle Call (Some file) None = refl
+none_kept resolve bundle Call file (Some asked) = refl
+none_kept resolve bundle Return None None = refl
+none_kept resolve bundle Return (Some file) None = refl
+none_kept resolve bundle Return file (Some asked) = refl
+none_kept resolve bundle Conditional file asked = refl
+
+pub changed_sound : (resolve : Bool) (bundle : Bundle) (c : BreakChange) (b : Breakpoint) → IsSound b
+    → IsSound (changed resolve bundle c b)
+changed_sound resolve bundle c b s = record {
   parts =
-      parts_kept b.kind c.line b.line b.function b.expression
-      (cases (is_of_function b.kind && is_some c.line) accepted) s.parts;
+      parts_kept b.kind (line_in (change_kept resolve bundle c b)) b.line b.function b.expression
+      (none_kept resolve bundle b.kind b.file c.line) s.parts;
   placed = s.placed;
   named = s.named;
   tree = s.tree;
   formed = s.formed;
-} where
-  cases : (t : Bool) → cond t (Some InvalidOptions) (requested_line_refusal bundle b.file c.line) ≡ None → t ≡ false
-  cases true f = absurd cc
-  cases false f = refl
+}

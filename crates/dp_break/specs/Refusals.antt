@@ -1,10 +1,8 @@
 -- Why a breakpoint is refused, by the codes of DBGp 1.0, "Error Codes". Which case has which code,
 -- and their order, are this engine's own.
-use Rattle.std.specs.Prelude.{◌≡◌, ℕ, ◌==◌, nat_le, nat_lt, Bool, false, ◌&&◌, ◌||◌, if◌then◌else◌, length, slice_get, Option, Some, None, is_some, Result, Ok, Err, ⊤}
+use Rattle.std.specs.Prelude.{◌≡◌, ℕ, ◌==◌, nat_le, nat_lt, Bool, false, ◌&&◌, ◌||◌, if◌then◌else◌, length, Option, Some, None, is_some, Result, Ok, Err, ⊤}
 use Rattle.std.specs.Option.{option_map_or, option_or}
 use Rattle.dp_tree.specs.declared.bundle.Bundle.{Bundle}
-use Rattle.dp_tree.specs.CodeLines.{file_lines, has_line}
-use Rattle.dp_tree.specs.declared.tree.File.{File}
 use Rattle.dp_lexer.specs.Pieces.{longest_name}
 use Rattle.dp_break.specs.declared.breakpoint.BreakChange.{BreakChange}
 use Rattle.dp_break.specs.declared.breakpoint.Breakpoint.{Breakpoint}
@@ -13,25 +11,10 @@ use Rattle.dp_break.specs.declared.errors.BreakError.{BreakError}
 use Rattle.dp_break.specs.declared.errors.BreakError.TheVariants as error
 use Rattle.dp_break.specs.Conditions.{has_no_tree, is_too_long}
 use Rattle.dp_break.specs.Hits.{is_of_function}
+use Rattle.dp_break.specs.Lines.{code_in, requested_line}
 use Rattle.dp_break.specs.Tables.{Table, breakpoint_limit, last_id}
 use Rattle.dp_packet.specs.declared.error_codes.ErrorCode.{ErrorCode}
-use Rattle.dp_packet.specs.declared.error_codes.ErrorCode.TheVariants.{InvalidOptions, BreakpointNotSet, InvalidBreakpointLine, NoCodeOnLine, NoSuchBreakpoint, InvalidExpression}
-
--- ---- lines
-
--- the file does not have the line, or no code is on it
-abbrev pub line_refusal : File → ℕ → Option ErrorCode
-line_refusal file line =
-    if line == 0 || nat_lt file.lines line then Some InvalidBreakpointLine
-    else if has_line (file_lines file) line then None
-    else Some NoCodeOnLine
-
--- a line that was asked for, if one was, of the file of this number
-abbrev pub requested_line_refusal : Bundle → Option ℕ → Option ℕ → Option ErrorCode
-requested_line_refusal bundle (Some file) (Some line) =
-    option_map_or (λ f. line_refusal f.tree line) (slice_get bundle.files file)
-    (Some InvalidBreakpointLine)
-requested_line_refusal bundle file line = None
+use Rattle.dp_packet.specs.declared.error_codes.ErrorCode.TheVariants.{InvalidOptions, BreakpointNotSet, NoSuchBreakpoint, InvalidExpression}
 
 -- ---- new breakpoints
 
@@ -41,25 +24,30 @@ cannot_be_held t r =
     nat_le breakpoint_limit (length t.held) || t.next == last_id
     || option_map_or (λ name. nat_lt longest_name (length name)) r.function false
 
--- the code of the first test of a place that holds
-abbrev pub place_refusal : Bundle → Table → BreakRequest → Option ErrorCode
-place_refusal bundle t r =
-    if cannot_be_held t r then Some BreakpointNotSet
-    else requested_line_refusal bundle (Some r.file) r.line
+-- the line that is kept of a request, or the code of the first test of its place that holds
+abbrev pub place_kept : Bool → Bundle → Table → BreakRequest → Result (Option ℕ) ErrorCode
+place_kept resolve bundle t r =
+    if cannot_be_held t r then Err BreakpointNotSet
+    else requested_line resolve bundle (Some r.file) r.line
+
+abbrev pub place_refusal : Bool → Bundle → Table → BreakRequest → Option ErrorCode
+place_refusal resolve bundle t r = code_in (place_kept resolve bundle t r)
 
 -- the code where a test holds
 abbrev pub code_if : Bool → ErrorCode → Option ErrorCode
 code_if holds code = if holds then Some code else None
 
 -- the code of the first test that holds: those of its place, and that of its expression
-abbrev pub request_refusal : Bundle → Table → BreakRequest → Option ErrorCode
-request_refusal bundle t r =
-    option_or (place_refusal bundle t r) (code_if (has_no_tree r.expression) InvalidExpression)
+abbrev pub request_refusal : Bool → Bundle → Table → BreakRequest → Option ErrorCode
+request_refusal resolve bundle t r =
+    option_or (place_refusal resolve bundle t r)
+    (code_if (has_no_tree r.expression) InvalidExpression)
 
 -- the same, where it needs no look at what an expression says
-abbrev pub plain_refusal : Bundle → Table → BreakRequest → Option ErrorCode
-plain_refusal bundle t r =
-    option_or (place_refusal bundle t r) (code_if (is_too_long r.expression) InvalidExpression)
+abbrev pub plain_refusal : Bool → Bundle → Table → BreakRequest → Option ErrorCode
+plain_refusal resolve bundle t r =
+    option_or (place_refusal resolve bundle t r)
+    (code_if (is_too_long r.expression) InvalidExpression)
 
 -- why a request is not accepted: it is refused, or memory runs out
 abbrev pub IsCause : Option ErrorCode → BreakError → Type 0
@@ -68,16 +56,21 @@ IsCause refusal error.Memory = ⊤
 
 -- ---- changes
 
--- a line is given to a breakpoint on a function; else that of the line
-abbrev pub change_refusal : Bundle → BreakChange → Breakpoint → Option ErrorCode
-change_refusal bundle c b =
-    if is_of_function b.kind && is_some c.line then Some InvalidOptions
-    else requested_line_refusal bundle b.file c.line
+-- the line that is kept of a change, if one is given; or that it is given to a breakpoint on a
+-- function, or the code of the line
+abbrev pub change_kept : Bool → Bundle → BreakChange → Breakpoint → Result (Option ℕ) ErrorCode
+change_kept resolve bundle c b =
+    if is_of_function b.kind && is_some c.line then Err InvalidOptions
+    else requested_line resolve bundle b.file c.line
+
+abbrev pub change_refusal : Bool → Bundle → BreakChange → Breakpoint → Option ErrorCode
+change_refusal resolve bundle c b = code_in (change_kept resolve bundle c b)
 
 -- the same of a breakpoint that was looked for
-abbrev pub update_refusal : Bundle → BreakChange → Option Breakpoint → Option ErrorCode
-update_refusal bundle c found =
-    option_map_or (change_refusal bundle c) found (Some NoSuchBreakpoint)
+abbrev pub update_refusal :
+    Bool → Bundle → BreakChange → Option Breakpoint → Option ErrorCode
+update_refusal resolve bundle c found =
+    option_map_or (change_refusal resolve bundle c) found (Some NoSuchBreakpoint)
 
 -- done, or refused with a code
 abbrev pub answer_of : Option ErrorCode → Result Unit BreakError

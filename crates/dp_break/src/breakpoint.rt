@@ -33,7 +33,8 @@ pub struct BreakChange {
 }
 
 /// A breakpoint that is held. One without a file is for the functions of any file. `hits` is how often it has hit; at
-/// the end of its type it stands still. `parsed` is the tree of `expression`.
+/// the end of its type it stands still. `resolved` says that it has a line, and that this was last set where it may
+/// move to the next line that has code. `parsed` is the tree of `expression`.
 #[derive(Debug, Drop)]
 pub struct Breakpoint {
     pub id: u32,
@@ -46,23 +47,25 @@ pub struct Breakpoint {
     pub hit_value: u32,
     pub hit_rule: HitRule,
     pub temporary: bool,
+    pub resolved: bool,
     pub expression: Option<Bytes>,
     pub parsed: Option<Expression>,
 }
 
 impl Breakpoint {
     ghost use Rattle.std.specs.Prelude.{◌≡◌};
-    ghost use Rattle.dp_break.specs.Changes.{changed};
+    ghost use Rattle.dp_break.specs.Changes.{changed_to};
 
-    /// Changes what is given. Takes no memory.
-    pub(crate) fn change(&mut self, change: BreakChange)
-        ensures { self.new ≡ changed change self.old }
+    /// Changes what is given; the line becomes this one, which is kept of it. Takes no memory.
+    pub(crate) fn change(&mut self, change: BreakChange, line: Option<u32>, resolve: bool)
+        ensures { self.new ≡ changed_to change line resolve self.old }
     {
         if let Some(enabled) = change.enabled {
             self.enabled = enabled;
         }
-        if let Some(line) = change.line {
+        if let Some(line) = line {
             self.line = Some(line);
+            self.resolved = resolve;
         }
         if let Some(value) = change.hit_value {
             self.hit_value = value;

@@ -6,7 +6,7 @@ ghost use Rattle.std.specs.List.{list_any};
 ghost use Rattle.dp_break.specs.Changes.{Adds, IsRequest, held_as, with_change, with_new, without};
 ghost use Rattle.dp_break.specs.Hits.{depends_on_expression, hits};
 ghost use Rattle.dp_break.specs.StopRule.{held_after, one_stops};
-ghost use Rattle.dp_break.specs.Refusals.{IsCause, answer_of, change_refusal, place_refusal, plain_refusal};
+ghost use Rattle.dp_break.specs.Refusals.{IsCause, answer_of, change_kept, place_kept, plain_refusal};
 ghost use Rattle.dp_break.specs.Refusals.{request_refusal, update_refusal};
 ghost use Rattle.dp_break.specs.Tables.{IsSound, IsTable, breakpoint_limit, empty, last_id};
 
@@ -14,7 +14,7 @@ use crate::breakpoint::{BreakChange, BreakRequest, Breakpoint};
 use crate::conditions::tree_of;
 use crate::errors::BreakError;
 use crate::hits::is_of_function;
-use crate::lines::requested_line_refusal;
+use crate::lines::requested_line;
 use crate::moments::{any_hits, discard, mark, settle};
 use crate::new_breakpoints::new_breakpoint;
 use dp_lexer::NAME_LIMIT;
@@ -71,18 +71,19 @@ fn make_room(marks: &mut Vec<bool>, count: usize) -> Result<(), Memory>
     Ok(())
 }
 
-/// The code with which a change is refused, if it is.
-fn refused_change(
+/// The line that is kept of a change, if it gives one, or the code with which it is refused.
+fn kept_of(
     bundle: &Bundle,
     change: BreakChange,
     breakpoint: &Breakpoint,
-) -> Option<ErrorCode>
-    ensures { result ≡ change_refusal bundle.now change breakpoint.now }
+    resolve: bool,
+) -> Result<Option<u32>, ErrorCode>
+    ensures { result ≡ change_kept resolve bundle.now change breakpoint.now }
 {
     if is_of_function(breakpoint.kind) && change.line.is_some() {
-        return Some(ErrorCode::InvalidOptions);
+        return Err(ErrorCode::InvalidOptions);
     }
-    requested_line_refusal(bundle, breakpoint.file, change.line)
+    requested_line(resolve, bundle, breakpoint.file, change.line)
 }
 
 impl Breaks {
@@ -106,6 +107,13 @@ impl Breaks {
         self.held.as_slice()
     }
 
+    /// The id that the next one gets. Takes no memory.
+    pub fn next_id(&self) -> u32
+        ensures { result ≡ self.now.next }
+    {
+        self.next
+    }
+
     /// The breakpoint with this id. Takes no memory.
     pub fn get(&self, id: u32) -> Option<&Breakpoint>
         ensures found { option_map (λ b. b.now) result ≡ held_as self.now.held id }
@@ -124,38 +132,51 @@ impl Breaks {
     /// 4,294,967,295 is left, or the name of a function has more than 255 bytes; 202 where the file does not have the
     /// line; 203 where no code is on it; 207 where the expression has more than 4,096 bytes, is none, or may change
     /// something. Then, and where memory runs out, nothing has changed.
-    pub fn add(&mut self, bundle: &Bundle, request: BreakRequest) -> Result<u32, BreakError>
+    ///
+    /// With `resolve` the line that it has is the next one that has code, from that which was asked for on; 203 is then
+    /// for a line behind which, itself among them, no line has code.
+    pub fn add(
+        &mut self,
+        bundle: &Bundle,
+        request: BreakRequest,
+        resolve: bool,
+    ) -> Result<u32, BreakError>
         requires { IsRequest bundle.now request }
-        ensures added { IfOk result (λ id. Adds bundle.now self.old request id self.new) }
-        ensures refused { IfErr result (IsCause (request_refusal bundle.now self.old request)) }
+        ensures added { IfOk result (λ id. Adds resolve bundle.now self.old request id self.new) }
+        ensures refused { IfErr result (IsCause (request_refusal resolve bundle.now self.old request)) }
         // Where only an expression would take memory, or nothing, it is refused whatever memory there is.
-        ensures surely { IfSome (plain_refusal bundle.now self.old request) (λ code.
+        ensures surely { IfSome (plain_refusal resolve bundle.now self.old request) (λ code.
             result ≡ Err (BreakError.Code code)) }
         ensures unchanged { OnErr result (self.new ≡ self.old) }
     {
-        match self.refused_request(bundle, &request) {
-            Some(code) => return Err(BreakError::Code(code)),
-            None => {}
-        }
+        let line = match self.place_kept(bundle, &request, resolve) {
+            Ok(line) => line,
+            Err(code) => return Err(BreakError::Code(code)),
+        };
         let tree = tree_of(self.alloc, &request.expression)?;
         let id = self.next;
-        self.hold(new_breakpoint(id, tree, request))?;
+        self.hold(new_breakpoint(id, tree, line, resolve, request))?;
         Ok(id)
     }
 
-    /// The first of the codes 200, 202 and 203 with which a request is refused, if it is.
-    fn refused_request(&self, bundle: &Bundle, request: &BreakRequest) -> Option<ErrorCode>
-        ensures { result ≡ place_refusal bundle.now self.now request.now }
+    /// The line that is kept of a request, or the first of the codes 200, 202 and 203 with which it is refused.
+    fn place_kept(
+        &self,
+        bundle: &Bundle,
+        request: &BreakRequest,
+        resolve: bool,
+    ) -> Result<Option<u32>, ErrorCode>
+        ensures { result ≡ place_kept resolve bundle.now self.now request.now }
     {
         if self.held.len() >= BREAKPOINT_LIMIT || self.next == u32::MAX {
-            return Some(ErrorCode::BreakpointNotSet);
+            return Err(ErrorCode::BreakpointNotSet);
         }
         if let Some(name) = &request.function {
             if name.len() > NAME_LIMIT {
-                return Some(ErrorCode::BreakpointNotSet);
+                return Err(ErrorCode::BreakpointNotSet);
             }
         }
-        requested_line_refusal(bundle, Some(request.file), request.line)
+        requested_line(resolve, bundle, Some(request.file), request.line)
     }
 
     /// Holds a breakpoint that has the next id.
@@ -175,15 +196,17 @@ impl Breaks {
 
     /// Changes a breakpoint. Its count stays. It is refused with the first of these codes whose test holds: 205 where
     /// no breakpoint has the id; 3 where a line is given to one on a function; 202 where the file does not have the
-    /// line, and 203 where no code is on it. Then nothing has changed. Takes no memory.
+    /// line, and 203 where no code is on it. Then nothing has changed. With `resolve` lines are as those of `add`. Takes
+    /// no memory.
     pub fn update(
         &mut self,
         bundle: &Bundle,
         id: u32,
         change: BreakChange,
+        resolve: bool,
     ) -> Result<(), BreakError>
-        ensures answer { result ≡ answer_of (update_refusal bundle.now change (held_as self.old.held id)) }
-        ensures changed { OnOk result (self.new ≡ with_change id change self.old) }
+        ensures answer { result ≡ answer_of (update_refusal resolve bundle.now change (held_as self.old.held id)) }
+        ensures changed { OnOk result (self.new ≡ with_change resolve bundle.now id change self.old) }
         ensures unchanged { OnErr result (self.new ≡ self.old) }
     {
         let at = match place_of(self.held.as_slice(), id) {
@@ -191,11 +214,11 @@ impl Breaks {
             None => return Err(BreakError::Code(ErrorCode::NoSuchBreakpoint)),
         };
         let breakpoint = &mut self.held[at];
-        match refused_change(bundle, change, breakpoint) {
-            Some(code) => return Err(BreakError::Code(code)),
-            None => {}
-        }
-        breakpoint.change(change);
+        let line = match kept_of(bundle, change, breakpoint, resolve) {
+            Ok(line) => line,
+            Err(code) => return Err(BreakError::Code(code)),
+        };
+        breakpoint.change(change, line, resolve);
         Ok(())
     }
 

@@ -7,7 +7,7 @@ use Rattle.std.proofs.lemmas.Bool.Decides.{nat_tests}
 use Rattle.std.proofs.lemmas.Fmt.{length-decimal-le}
 use Rattle.dp_break.specs.StopRule.{Reached, each_from, reached}
 use Rattle.dp_markup.specs.Texts.{attribute_text, node_text, nodes_text}
-use Rattle.dp_packet.specs.Breakpoints.{breakpoint_node, state_name}
+use Rattle.dp_packet.specs.Breakpoints.{breakpoint_node, resolved_attribute, state_name}
 use Rattle.dp_packet.specs.declared.packet.Body.{Body}
 use Rattle.dp_packet.specs.declared.packet.BreakLine.{BreakLine}
 use Rattle.dp_packet.specs.declared.packet.Packet.{Packet}
@@ -18,13 +18,17 @@ use Rattle.dp_packet.specs.Parts.{Attributes, Text, namespace}
 use Rattle.dp_packet.specs.Text.{text}
 use Rattle.dp_packet.specs.inner.Sizes.{attributes_size}
 use Rattle.dp_packet.specs.Sizes.{counted}
-use Rattle.dp_packet.proofs.LengthLaws.{attributes_short, bare_response_short}
+use Rattle.dp_packet.proofs.LengthLaws.{attributes_short, bare_response_short, weight}
 use Rattle.dp_packet.proofs.SizeLaws.{attribute_length, packet_length, written_length}
 use Rattle.dp_wire.specs.Frames.{packet_limit}
 use Rattle.dp_breakpoint_commands.specs.Commands.{bare_response, lines_fit, lines_response, listed, response, set_response}
 use Rattle.dp_breakpoint_commands.specs.inner.LineSizes.{fitting, line_size}
 
 -- ---- sizes
+
+pub resolved_short : (resolved : Bool) → weight (resolved_attribute resolved) ≤ 60
+resolved_short true = omega arith
+resolved_short false = omega arith
 
 state_short : (enabled : Bool) → length (state_name enabled) ≤ 8
 state_short true = omega arith
@@ -174,14 +178,15 @@ module _ (command id : Text) where
     pub bare_response_fits : length (text (packet.Response (bare_response command id))) ≤ packet_limit
     bare_response_fits = omega (arith, bare_response_short command id [])
 
-    pub set_response_fits : (enabled : Bool) (number : ℕ) → number < 2 ^ 32
-        → length (text (packet.Response (set_response command id enabled number))) ≤ packet_limit
-    set_response_fits enabled number small =
+    pub set_response_fits : (enabled : Bool) (number : ℕ) (resolved : Bool) → number < 2 ^ 32
+        → length (text (packet.Response (set_response command id enabled number resolved))) ≤ packet_limit
+    set_response_fits enabled number resolved small =
         let digits = length-decimal-le 10 number (omega arith) (omega (arith, small)) (omega (arith, small)) in
         omega (
           arith,
           bare_response_short command id ((codes "state", state_name enabled) ∷ (codes "id", decimal number)
-              ∷ []),
+              ∷ resolved_attribute resolved),
+          resolved_short resolved,
           digits,
           state_short enabled,
         )

@@ -202,16 +202,16 @@ abbrev failed : {A : Type 0} → BreakpointError → Result A BreakpointError
 failed e = Err e
 
 -- a request that what is held accepts is refused by no plain test
-pub plain_passed : {A : Type 0} (bundle : Bundle) (here : ℕ) (t : Table) (set : BreakpointSet) (r : BreakRequest)
+pub plain_passed : {A : Type 0} (resolve : Bool) (bundle : Bundle) (here : ℕ) (t : Table) (set : BreakpointSet) (r : BreakRequest)
     (id : ℕ) → refusal bundle set ≡ None → r ≡ request bundle here set
-    → IfSome (plain_refusal bundle t r) (λ code. held_id id ≡ Err (held.Code code))
+    → IfSome (plain_refusal resolve bundle t r) (λ code. held_id id ≡ Err (held.Code code))
     → (result : Result A BreakpointError)
-    → IfSome (plain_set_refusal bundle here t set) (λ code. result ≡ Err (Code code))
-plain_passed {A} bundle here t set r id free is h result =
-    subst (λ (o : Option ErrorCode). IfSome (option_or o (plain_refusal bundle t (request bundle here set)))
+    → IfSome (plain_set_refusal resolve bundle here t set) (λ code. result ≡ Err (Code code))
+plain_passed {A} resolve bundle here t set r id free is h result =
+    subst (λ (o : Option ErrorCode). IfSome (option_or o (plain_refusal resolve bundle t (request bundle here set)))
     (λ code. result ≡ Err (Code code))) (sym free)
-    (by (plain_refusal bundle t (request bundle here set)) (subst
-    (λ (x : BreakRequest). IfSome (plain_refusal bundle t x) (λ code. held_id id ≡ Err (held.Code code))) is h))
+    (by (plain_refusal resolve bundle t (request bundle here set)) (subst
+    (λ (x : BreakRequest). IfSome (plain_refusal resolve bundle t x) (λ code. held_id id ≡ Err (held.Code code))) is h))
   where
     by : (o : Option ErrorCode) → IfSome o (λ code. held_id id ≡ Err (held.Code code))
         → IfSome o (λ code. result ≡ Err (Code code))
@@ -219,17 +219,17 @@ plain_passed {A} bundle here t set r id free is h result =
     by (Some code) h = absurd cc
 
 -- one that a plain test refuses is refused so
-pub plain_told : {A : Type 0} (bundle : Bundle) (here : ℕ) (t : Table) (set : BreakpointSet) (r : BreakRequest)
+pub plain_told : {A : Type 0} (resolve : Bool) (bundle : Bundle) (here : ℕ) (t : Table) (set : BreakpointSet) (r : BreakRequest)
     (e : BreakError) → refusal bundle set ≡ None → r ≡ request bundle here set
-    → IfSome (plain_refusal bundle t r) (λ code. not_held e ≡ Err (held.Code code))
+    → IfSome (plain_refusal resolve bundle t r) (λ code. not_held e ≡ Err (held.Code code))
     → (result : Result A BreakpointError) → IsErrAnd result (λ x. x ≡ error_of e)
-    → IfSome (plain_set_refusal bundle here t set) (λ code. result ≡ Err (Code code))
-plain_told bundle here t set r e free is h (Ok a) told = absurd told
-plain_told {A} bundle here t set r e free is h (Err x) told =
-    subst (λ (o : Option ErrorCode). IfSome (option_or o (plain_refusal bundle t (request bundle here set)))
+    → IfSome (plain_set_refusal resolve bundle here t set) (λ code. result ≡ Err (Code code))
+plain_told resolve bundle here t set r e free is h (Ok a) told = absurd told
+plain_told {A} resolve bundle here t set r e free is h (Err x) told =
+    subst (λ (o : Option ErrorCode). IfSome (option_or o (plain_refusal resolve bundle t (request bundle here set)))
     (λ code. failed {A = A} x ≡ Err (Code code))) (sym free)
-    (by (plain_refusal bundle t (request bundle here set)) (subst
-    (λ (y : BreakRequest). IfSome (plain_refusal bundle t y) (λ code. not_held e ≡ Err (held.Code code))) is h))
+    (by (plain_refusal resolve bundle t (request bundle here set)) (subst
+    (λ (y : BreakRequest). IfSome (plain_refusal resolve bundle t y) (λ code. not_held e ≡ Err (held.Code code))) is h))
   where
     by : (o : Option ErrorCode) → IfSome o (λ code. not_held e ≡ Err (held.Code code))
         → IfSome o (λ code. failed {A = A} x ≡ Err (Code code))

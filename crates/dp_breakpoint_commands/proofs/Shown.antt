@@ -13,21 +13,26 @@ use Rattle.dp_break.specs.Conditions.{expression_limit}
 use Rattle.dp_break.proofs.Requests.{formed_short}
 use Rattle.dp_markup.specs.declared.tree.Element.{Element}
 use Rattle.dp_markup.specs.Texts.{nodes_text}
-use Rattle.dp_packet.specs.Breakpoints.{expression_nodes, given_number, hit_attributes, kind_attributes, kind_name, place_attributes, rule_name, state_name}
+use Rattle.dp_packet.specs.Breakpoints.{breakpoint_node, expression_nodes, given_number, hit_attributes, kind_attributes, kind_name, place_attributes, resolved_attribute, rule_name, state_name}
 use Rattle.dp_packet.specs.declared.packet.BreakKind.{BreakKind}
 use Rattle.dp_packet.specs.declared.packet.BreakKind.TheVariants.{Line, Call, Return, Conditional}
 use Rattle.dp_packet.specs.declared.packet.BreakLine.{BreakLine}
 use Rattle.dp_packet.specs.declared.packet.HitRule.{HitRule}
 use Rattle.dp_packet.specs.declared.packet.HitRule.TheVariants.{AtLeast, Exactly, Multiple}
 use Rattle.dp_packet.specs.Parts.{Attributes, Text, element, flag, given, text_nodes}
+use Rattle.dp_packet.specs.declared.packet.Packet.{Packet}
+use Rattle.dp_packet.specs.declared.packet.Packet.TheVariants as packet
+use Rattle.dp_packet.specs.Packets.{element_of}
+use Rattle.dp_packet.specs.Text.{text}
 use Rattle.dp_packet.specs.Uris.{file_uri}
-use Rattle.dp_packet.proofs.LengthLaws.{child_short, text_short, uri_short, weight, written_short}
+use Rattle.dp_wire.specs.Frames.{packet_limit}
+use Rattle.dp_packet.proofs.LengthLaws.{child_short, packet_short, text_short, uri_short, weight, written_short}
 use Rattle.dp_tree.specs.declared.bundle.Bundle.{Bundle}
 use Rattle.dp_tree.specs.declared.bundle.BundleFile.{BundleFile}
 use Rattle.dp_tree.specs.FileNames.{AreFileNames, IsFileName}
 use Rattle.dp_breakpoint_commands.specs.inner.Numbers.{HasNumbers}
 use Rattle.dp_breakpoint_commands.specs.Lines.{breakpoint_line, uri_of}
-use Rattle.dp_breakpoint_commands.proofs.Lengths.{lines_size}
+use Rattle.dp_breakpoint_commands.proofs.Lengths.{lines_size, resolved_short}
 
 -- ---- attributes
 
@@ -122,13 +127,18 @@ module _ (l : BreakLine) (s : IsShort l) where
 
   pub line_short : lines_size (l ∷ []) ≤ 40000
   line_short =
-      let attributes : Attributes = kind_attributes l ++ place_attributes l ++ hit_attributes l in
+      let attributes : Attributes = kind_attributes l ++ place_attributes l ++ hit_attributes l
+      ++ resolved_attribute l.resolved in
       let e : Element = element (codes "breakpoint") attributes (expression_nodes l.expression) in
+      let whole = weight-append (kind_attributes l ++ place_attributes l ++ hit_attributes l)
+      (resolved_attribute l.resolved) in
       let all = weight-append (kind_attributes l ++ place_attributes l) (hit_attributes l) in
       let front = weight-append (kind_attributes l) (place_attributes l) in
       child_short e 40000 (omega (
         arith,
         written_short e 25000 (expression_short l.expression s.expression),
+        whole,
+        resolved_short l.resolved,
         all,
         front,
         kinds_short,
@@ -172,6 +182,16 @@ shown_short bundle b names sound numbers = line_short (breakpoint_line bundle b)
   hit_value = numbers.hit_value;
   expression = text_within b.expression (formed_short b.expression sound.formed);
 })
+
+-- news of one
+pub notice_fits : (line : BreakLine) → lines_size (line ∷ []) ≤ 40000
+    → length (text (packet.Notify (record { name = codes "breakpoint_resolved"; breakpoint = Some line })))
+    ≤ packet_limit
+notice_fits line short =
+    let p : Packet = packet.Notify (record { name = codes "breakpoint_resolved"; breakpoint = Some line }) in
+    let inside : length (nodes_text (breakpoint_node line ∷ [])) ≤ 40000 = short in
+    let whole = packet_short p _ (written_short (element_of p) 40000 inside) in
+    omega (arith, whole)
 
 -- ---- what was found
 

@@ -1,5 +1,5 @@
 -- Why a breakpoint_update command is refused: by its words, or by what is held.
-use Rattle.std.proofs.Common.{◌≡◌, sym, subst, refl, Option, Some, None}
+use Rattle.std.proofs.Common.{◌≡◌, sym, subst, refl, Bool, Option, Some, None}
 use Rattle.std.specs.Prelude.{IfErr, IfSome, IsErrAnd, Result, Ok, Err}
 use Rattle.std.specs.Option.{option_map_or, option_or}
 use Rattle.dp_break.specs.Changes.{held_as}
@@ -59,16 +59,16 @@ abbrev not_held : BreakError → Result Unit BreakError
 not_held e = Err e
 
 -- a change whose words are refused is refused so
-pub words_told : (bundle : Bundle) (t : Table) (update : BreakpointUpdate) (b : Breakpoint) (e : BreakpointError)
+pub words_told : (resolve : Bool) (bundle : Bundle) (t : Table) (update : BreakpointUpdate) (b : Breakpoint) (e : BreakpointError)
     → Some b ≡ held_as t.held update.id
     → refused e ≡ answer_of (first_code (change_tests b.kind update)) (change update)
-    → IsCode (update_refusal bundle t update) e
-words_told bundle t update b e found h =
-    subst (λ (o : Option Breakpoint). IsCode (option_map_or (change_refused bundle update) o (Some NoSuchBreakpoint)) e)
+    → IsCode (update_refusal resolve bundle t update) e
+words_told resolve bundle t update b e found h =
+    subst (λ (o : Option Breakpoint). IsCode (option_map_or (change_refused resolve bundle update) o (Some NoSuchBreakpoint)) e)
     found (by (first_code (change_tests b.kind update)) h)
   where
     by : (o : Option ErrorCode) → refused e ≡ answer_of o (change update)
-        → IsCode (option_or o (change_refusal bundle (change update) b)) e
+        → IsCode (option_or o (change_refusal resolve bundle (change update) b)) e
     by None h = absurd cc
     by (Some code) h = let same : e ≡ Code code = cc in subst (IsCode (Some code)) (sym same) refl
 
@@ -78,22 +78,22 @@ held_told (Some code) e h =
     let same : e ≡ held.Code code = cc in subst (λ (x : BreakError). IsCode (Some code) (error_of x)) (sym same) refl
 
 -- one whose words are accepted is refused by what is held
-pub change_told : (bundle : Bundle) (t : Table) (update : BreakpointUpdate) (b : Breakpoint) (c : BreakChange)
+pub change_told : (resolve : Bool) (bundle : Bundle) (t : Table) (update : BreakpointUpdate) (b : Breakpoint) (c : BreakChange)
     (e : BreakError) → Some b ≡ held_as t.held update.id
     → accepted c ≡ answer_of (first_code (change_tests b.kind update)) (change update)
-    → not_held e ≡ held_refusal.answer_of (held_refusal.update_refusal bundle c (held_as t.held update.id))
-    → IsCode (update_refusal bundle t update) (error_of e)
-change_told bundle t update b c e found words h =
-    subst (λ (o : Option Breakpoint). IsCode (option_map_or (change_refused bundle update) o (Some NoSuchBreakpoint))
+    → not_held e ≡ held_refusal.answer_of (held_refusal.update_refusal resolve bundle c (held_as t.held update.id))
+    → IsCode (update_refusal resolve bundle t update) (error_of e)
+change_told resolve bundle t update b c e found words h =
+    subst (λ (o : Option Breakpoint). IsCode (option_map_or (change_refused resolve bundle update) o (Some NoSuchBreakpoint))
     (error_of e)) found
     (by (first_code (change_tests b.kind update)) words (subst (λ (o : Option Breakpoint). not_held e
-    ≡ held_refusal.answer_of (held_refusal.update_refusal bundle c o)) (sym found) h))
+    ≡ held_refusal.answer_of (held_refusal.update_refusal resolve bundle c o)) (sym found) h))
   where
     by : (o : Option ErrorCode) → accepted c ≡ answer_of o (change update)
-        → not_held e ≡ held_refusal.answer_of (change_refusal bundle c b)
-        → IsCode (option_or o (change_refusal bundle (change update) b)) (error_of e)
+        → not_held e ≡ held_refusal.answer_of (change_refusal resolve bundle c b)
+        → IsCode (option_or o (change_refusal resolve bundle (change update) b)) (error_of e)
     by None words h =
         let same : c ≡ change update = cc in
-        held_told (change_refusal bundle (change update) b) e
-        (subst (λ (x : BreakChange). not_held e ≡ held_refusal.answer_of (change_refusal bundle x b)) same h)
+        held_told (change_refusal resolve bundle (change update) b) e
+        (subst (λ (x : BreakChange). not_held e ≡ held_refusal.answer_of (change_refusal resolve bundle x b)) same h)
     by (Some code) words h = absurd cc

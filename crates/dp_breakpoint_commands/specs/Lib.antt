@@ -5,4 +5,5 @@ pub mod Requests
 pub mod Updates
 pub mod Lines
 pub mod Commands
+pub mod Notices
 pub mod inner

@@ -22,6 +22,7 @@ breakpoint_line bundle b = record {
   hit_value = b.hit_value;
   hit_rule = b.hit_rule;
   temporary = b.temporary;
+  resolved = b.resolved;
   expression = b.expression;
 }
 

@@ -6,8 +6,10 @@ mod change;
 mod errors;
 mod lines;
 mod lists;
+mod notices;
 mod request;
 mod responses;
+mod wishes;
 mod words;
 
 pub use answers::answer_breakpoints;
@@ -16,3 +18,4 @@ pub use dp_value::Memory;
 pub use errors::BreakpointError;
 pub use lines::breakpoint_line;
 pub use request::breakpoint_request;
+pub use wishes::{Answered, Wishes};

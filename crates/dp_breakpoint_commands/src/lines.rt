@@ -52,6 +52,7 @@ pub fn breakpoint_line(alloc: Global, bundle: &Bundle, b: &Breakpoint) -> Result
         hit_value: b.hit_value,
         hit_rule: b.hit_rule,
         temporary: b.temporary,
+        resolved: b.resolved,
         expression: copy_of(&b.expression)?,
     })
 }

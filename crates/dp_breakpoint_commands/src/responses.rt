@@ -64,28 +64,37 @@ pub(crate) fn bare_response(alloc: Global, to: &Addressee) -> Result<Response, M
     response(alloc, to, Vec::new(alloc), Body::Nothing)
 }
 
-/// The state and the id of a new breakpoint.
-fn set_attributes(alloc: Global, enabled: bool, id: u32) -> Result<Vec<(Bytes, Bytes)>, Memory>
-    ensures { IfOk result (λ attributes. attributes.items
-        ≡ (codes "state", breakpoints.state_name enabled) ∷ (codes "id", decimal id) ∷ []) }
+/// The state and the id of a new breakpoint, and whether it is resolved.
+fn set_attributes(
+    alloc: Global,
+    enabled: bool,
+    id: u32,
+    resolved: bool,
+) -> Result<Vec<(Bytes, Bytes)>, Memory>
+    ensures { IfOk result (λ attributes. attributes.items ≡ (codes "state", breakpoints.state_name enabled)
+        ∷ (codes "id", decimal id) ∷ breakpoints.resolved_attribute resolved) }
 {
     let mut attributes = Vec::new(alloc);
     attributes.push(pair(alloc, b"state", state_name(enabled))?)?;
     attributes.push(number_pair(alloc, b"id", id)?)?;
+    if resolved {
+        attributes.push(pair(alloc, b"resolved", b"resolved")?)?;
+    }
     Ok(attributes)
 }
 
-/// A response with the state and the id of a new breakpoint.
+/// A response with the state and the id of a new breakpoint, and whether it is resolved.
 pub(crate) fn set_response(
     alloc: Global,
     to: &Addressee,
     enabled: bool,
     id: u32,
+    resolved: bool,
 ) -> Result<Response, Memory>
-    ensures value { IfOk result (λ r. r ≡ spec.set_response to.now.command to.now.id enabled id) }
+    ensures value { IfOk result (λ r. r ≡ spec.set_response to.now.command to.now.id enabled id resolved) }
     ensures short { IfOk result (λ r. length (text (packet.Response r)) ≤ packet_limit) }
 {
-    let attributes = set_attributes(alloc, enabled, id)?;
+    let attributes = set_attributes(alloc, enabled, id, resolved)?;
     response(alloc, to, attributes, Body::Nothing)
 }
 

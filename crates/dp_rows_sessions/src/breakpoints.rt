@@ -60,7 +60,7 @@ pub(crate) fn set(session: &mut Session, asked: BreakpointSet) -> Result<Answer,
         Err(BreakpointError::Memory) => return Err(Memory),
     };
     let enabled = request.enabled;
-    match session.breaks.add(&session.bundle, request) {
+    match session.breaks.add(&session.bundle, request, false) {
         Ok(id) => Ok(Answer::Given(response_attributes(alloc, enabled, id)?, Body::Nothing)),
         Err(error) => refused(error),
     }
@@ -109,7 +109,10 @@ pub(crate) fn update(session: &mut Session, asked: &BreakpointUpdate) -> Answer 
         Err(BreakpointError::Code(code)) => return Answer::Code(code),
         Err(BreakpointError::Memory) => return Answer::Nothing,
     };
-    match session.breaks.update(&session.bundle, asked.id, change) {
+    match session
+        .breaks
+        .update(&session.bundle, asked.id, change, false)
+    {
         Ok(()) => bare(session.alloc, Body::Nothing),
         Err(BreakError::Code(code)) => Answer::Code(code),
         Err(BreakError::Memory) => Answer::Nothing,

@@ -1,6 +1,6 @@
-use Rattle.std.proofs.Common.{[], ◌∷◌, codes, arith}
+use Rattle.std.proofs.Common.{◌∷◌, codes, arith}
 use Rattle.std.specs.Prelude.{decimal}
-use Rattle.dp_packet.specs.Breakpoints.{state_name}
+use Rattle.dp_packet.specs.Breakpoints.{resolved_attribute, state_name}
 use Rattle.dp_packet.specs.declared.packet.Body.TheVariants.{Nothing}
 use Rattle.dp_breakpoint_commands.proofs.Lengths.{made_fits, set_response_fits}
 use Rattle.dp_breakpoint_commands.proofs.responses.set_response.Goals as goal
@@ -11,7 +11,8 @@ returns-clause-short c =
     let id = c.args.to.now.id in
     let small = c.ranges.id.fits in
     made_fits command id Nothing c.in_ok-attributes.attributes.items
-    ((codes "state", state_name c.args.enabled) ∷ (codes "id", decimal c.args.id) ∷ []) c.response.result
+    ((codes "state", state_name c.args.enabled) ∷ (codes "id", decimal c.args.id)
+    ∷ resolved_attribute c.args.resolved) c.response.result
     c.response.ensures c.in_ok-attributes.ensures
     (set_response_fits command id c.args.to.now.command_bound c.args.to.now.id_bound c.args.enabled c.args.id
-    (omega (arith, small)))
+    c.args.resolved (omega (arith, small)))
