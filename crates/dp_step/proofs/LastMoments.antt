@@ -9,7 +9,7 @@ use Rattle.dp_step.specs.declared.machine.Machine.{Machine}
 use Rattle.dp_step.specs.Stands.{EndsWith, StandsFor}
 use Rattle.dp_step.proofs.MachineSteps.{of_image}
 
-past-all : {A : Type 0} (n : ℕ) (xs : List A) → slice_get xs n ≡ None → length xs ≤ n
+pub past-all : {A : Type 0} (n : ℕ) (xs : List A) → slice_get xs n ≡ None → length xs ≤ n
 past-all n [] e = omega arith
 past-all zero (x ∷ xs) e = absurd (cc)
 past-all (suc n) (x ∷ xs) e = let more = past-all n xs e in omega (arith, more)

@@ -211,7 +211,7 @@ module _ (bundle : Bundle) (bound : ℕ) (writes : List NumberedWrite) where
       cases false ih = refl
 
   -- the last state has counted all moments
-  all-counted : {A : Type 0} (n : ℕ) (r : Run A) → IsSteady n r → (trace bound ws r).state.moments ≡ n + length
+  pub all-counted : {A : Type 0} (n : ℕ) (r : Run A) → IsSteady n r → (trace bound ws r).state.moments ≡ n + length
       (trace bound ws r).moments
   all-counted n (Done a s) steady = steady ∙ omega arith
   all-counted n (Over o s) steady = steady.1 ∙ omega arith

@@ -6,3 +6,6 @@ pub mod WritesMade
 pub mod WriteLaws
 pub mod LastMoments
 pub mod LeapLaws
+pub mod PassedRuns
+pub mod PassedSteps
+pub mod PassedWays

@@ -2,3 +2,4 @@
 pub mod Moves
 pub mod Shallow
 pub mod Leaps
+pub mod Passing

@@ -258,7 +258,7 @@ impl<'p> Machine<'p> {
 }
 
 /// By how many a number has risen.
-fn risen(before: u64, after: u64) -> u64
+pub(crate) fn risen(before: u64, after: u64) -> u64
     ensures { result ≡ after - before }
 {
     after.saturating_sub(before)

@@ -5,6 +5,7 @@ mod deep_turns;
 mod errors;
 mod finish;
 mod machine;
+mod past;
 mod small;
 mod steps;
 mod writes;

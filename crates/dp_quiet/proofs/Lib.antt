@@ -1,0 +1,2 @@
+pub mod TreeQuiet
+pub mod FreeRuns

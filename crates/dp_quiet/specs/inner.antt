@@ -1,0 +1,2 @@
+-- Definitions that proofs alone use.
+pub mod Parts
