@@ -1,6 +1,7 @@
 pub mod Free
 pub mod Lists
 pub mod MachineStops
+pub mod UnseenMoments
 pub mod StopMoments
 pub mod WriteAnswers
 pub mod RefusalLaws

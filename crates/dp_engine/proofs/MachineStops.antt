@@ -1,5 +1,5 @@
 -- A machine that goes on moment by moment finds the stop of its program, and counts the hits up to there.
-use Rattle.std.proofs.Common.{◌≡◌, ℕ, suc, ◌+◌, ◌<◌, Bool, true, false, cond, ◌||◌, List, [], ◌∷◌, drop, length, Option, Some, None, sym, ap, subst, ◌∙◌, arith}
+use Rattle.std.proofs.Common.{◌≡◌, ℕ, suc, ◌+◌, ◌<◌, ◌≤◌, Bool, true, false, cond, ◌||◌, List, [], ◌∷◌, drop, length, Option, Some, None, sym, ap, subst, ◌∙◌, arith}
 use Rattle.dp_break.specs.declared.breakpoint.Breakpoint.{Breakpoint}
 use Rattle.dp_break.specs.StopRule.{Moments, found, held_after, one_stops}
 use Rattle.dp_break.specs.Tables.{Table}
@@ -14,7 +14,7 @@ use Rattle.dp_meaning.specs.Trace.{moment_at, program_trace}
 use Rattle.dp_meaning_laws.proofs.Whole.{end-can, now-can, numbered}
 use Rattle.dp_step.specs.declared.machine.Machine.{Machine}
 use Rattle.dp_step.specs.Stands.{ComesTo, EndsWith, StandsFor}
-use Rattle.dp_step.proofs.LastMoments.{ends-at-last}
+use Rattle.dp_step.proofs.LastMoments.{past-all}
 use Rattle.dp_engine.specs.declared.reached.Reached.TheVariants as reached
 use Rattle.dp_engine.specs.NextStop.{Reaches, stop_past, table_past}
 use Rattle.dp_engine.specs.Stops.{depth_of}
@@ -35,10 +35,18 @@ module _ (mode : Moment → Bool) (bundle : Bundle) (bound : ℕ) (writes : List
     pub found : found_past before.held n ≡ found_past table.held at
     pub counted : steps + n ≡ begun + at
 
+  -- the same where the machine need not stand at that moment
+  pub record IsPast (n : ℕ) (before table : Table) (begun steps : ℕ) : Type 0 where
+    pub at : ℕ
+    pub within : at ≤ length moments
+    pub next : table.next ≡ before.next
+    pub found : found_past before.held n ≡ found_past table.held at
+    pub counted : steps + n ≡ begun + at
+
   -- ---- a moment
 
-  module _ (n : ℕ) (before table : Table) (old : Machine) (begun steps : ℕ)
-      (way : IsOnWay n before table old begun steps) (moment : Moment) (new : Machine)
+  module _ (n : ℕ) (before table : Table) (begun steps : ℕ)
+      (way : IsPast n before table begun steps) (moment : Moment) (new : Machine)
       (comes : ComesTo bundle bound writes way.at moment new) (after : ℕ) (one : after ≡ steps + 1) where
     abbrev here : Moment × State
     here = (moment, new.state)
@@ -123,8 +131,8 @@ module _ (mode : Moment → Bool) (bundle : Bundle) (bound : ℕ) (writes : List
 
   -- ---- the end
 
-  module _ (n : ℕ) (before table : Table) (old : Machine) (begun steps : ℕ)
-      (way : IsOnWay n before table old begun steps) (end : Outcome) (new : Machine)
+  module _ (n : ℕ) (before table : Table) (begun steps : ℕ)
+      (way : IsPast n before table begun steps) (end : Outcome) (new : Machine)
       (ends : EndsWith bundle bound writes way.at end new) where
     over : found_past before.held n ≡ (None, table.held)
     over = way.found ∙ ap (found mode bundle table.held way.at) (drop-past way.at moments ends.0)
@@ -148,5 +156,5 @@ module _ (mode : Moment → Bool) (bundle : Bundle) (bound : ℕ) (writes : List
 
     pub counts-end : (after : ℕ) → after ≡ steps + 0 → after + n ≡ begun + length moments
     counts-end after none =
-        let last = ends-at-last bundle bound writes way.at end old new way.stands ends in
-        omega (arith, none, last, way.counted)
+        let least = past-all way.at moments ends.0 in
+        omega (arith, none, least, way.within, way.counted)

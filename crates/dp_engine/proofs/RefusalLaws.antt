@@ -124,13 +124,13 @@ written_none command id r state e =
       by (Err code) is e = absurd cc
 
 -- a response to breakpoint commands is no error
-breakpoint_none : (bundle : Bundle) (command id : Text) (t : Table) (r : BreakpointRequest)
-    → fault_in (breakpoint_response bundle command id t r).body ≡ None
-breakpoint_none bundle command id t (asked.Set set) = refl
-breakpoint_none bundle command id t (asked.One Get number) = refl
-breakpoint_none bundle command id t (asked.One Remove number) = refl
-breakpoint_none bundle command id t (asked.Update update) = refl
-breakpoint_none bundle command id t asked.List = refl
+breakpoint_none : (resolve : Bool) (bundle : Bundle) (command id : Text) (t : Table) (r : BreakpointRequest)
+    → fault_in (breakpoint_response resolve bundle command id t r).body ≡ None
+breakpoint_none resolve bundle command id t (asked.Set set) = refl
+breakpoint_none resolve bundle command id t (asked.One Get number) = refl
+breakpoint_none resolve bundle command id t (asked.One Remove number) = refl
+breakpoint_none resolve bundle command id t (asked.Update update) = refl
+breakpoint_none resolve bundle command id t asked.List = refl
 
 in_packet_none : (command id : Text) (r : Response) → fault_in r.body ≡ None
     → fault_in (in_packet command id r).body ≡ None
@@ -144,7 +144,7 @@ done : (command id : Text) (r : Request) (state : State) → first_code (own_tes
     → fault_of (performed command id r state) ≡ None
 done command id (Session r) state e = session_none command id r state
 done command id (Breakpoints r) state e =
-    in_packet_none command id _ (breakpoint_none state.bundle command id state.breaks r)
+    in_packet_none command id _ (breakpoint_none _ state.bundle command id state.breaks r)
 done command id (Look r) state e =
     shown_none command id r state
     (sym (first_for (view_refusal state.bundle (here state) state.features (program_of state) command id r)) ∙ e)
@@ -230,7 +230,7 @@ refusal_alone : (state : State) (bytes : List ℕ) (code : ErrorCode)
     code
 refusal_alone state bytes code = λ i. record {
   packets =
-      (ap (to_ide state.stdout) (nothing_written state) ∙ none_to_ide state.stdout) i
+      (ap (to_ide state.stdout) (nothing_written state) ∙ none_to_ide state.stdout) i ++ []
       ++ response_text (refused (command_in (line_of bytes)) (id_in (line_of bytes)) code state).response ∷ [];
   program = (ap (to_program state.stdout) (nothing_written state) ∙ none_to_program state.stdout) i;
   state = state;
@@ -241,7 +241,9 @@ answered_as : (state : State) (bytes : List ℕ) (code : Option ErrorCode) → r
     → IsAnsweredBy code state bytes (sent state (turn_of (line_of bytes) code state))
 answered_as state bytes (Some code) e = refusal_alone state bytes code
 answered_as state bytes None e = record {
-  before = to_ide state.stdout (written_between state (turn_of (line_of bytes) None state).next);
+  before =
+      to_ide state.stdout (written_between state (turn_of (line_of bytes) None state).next)
+      ++ (turn_of (line_of bytes) None state).before;
   response = (turn_of (line_of bytes) None state).response;
   last = refl;
   no_error = turn_cases (line_of bytes) state None e;

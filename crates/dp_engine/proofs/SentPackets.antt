@@ -71,7 +71,7 @@ unfolding answer
 given_is before next bytes mode written made sent m w t s =
     let fresh : written ≡ written_between before (turn before bytes).next = w
     ∙ ap (written_between before) t.next in λ i. record {
-      packets = (s.packets ∙ (λ j. to_ide (m j) (fresh j) ++ t.responds.text j ∷ [])) i;
+      packets = (s.packets ∙ (λ j. to_ide (m j) (fresh j) ++ t.responds.before_it j ++ t.responds.text j ∷ [])) i;
       program = (s.program ∙ (λ j. to_program (m j) (fresh j))) i;
       state = t.next i;
       ended = (s.ended ∙ t.responds.ends) i;

@@ -65,18 +65,24 @@ both_texts [] b h k = k
 both_texts (t ∷ a) b h k = (h.0, both_texts a b h.1 k)
 
 -- what is sent with the text of a response is texts of packets
-pub sent_texts : (mode : StreamMode) (output last : Text) → IsPacketText last
-    → AllByRecursion IsPacketText (to_ide mode output ++ last ∷ [])
-sent_texts Disable output last h = (h, tt)
-sent_texts Copy output last h = both_texts (streams output) (last ∷ []) (pieces_are_texts _ output) (h, tt)
-sent_texts Redirect output last h = both_texts (streams output) (last ∷ []) (pieces_are_texts _ output) (h, tt)
+pub sent_texts : (mode : StreamMode) (output : Text) (before : List Text) (last : Text)
+    → AllByRecursion IsPacketText before → IsPacketText last
+    → AllByRecursion IsPacketText (to_ide mode output ++ before ++ last ∷ [])
+sent_texts mode output before last k h =
+    both_texts (to_ide mode output ++ before) (last ∷ []) (both_texts (to_ide mode output) before (told mode) k) (h, tt)
+  where
+    told : (mode : StreamMode) → AllByRecursion IsPacketText (to_ide mode output)
+    told Disable = tt
+    told Copy = pieces_are_texts _ output
+    told Redirect = pieces_are_texts _ output
 
-pub all_texts : {E : Type 0} (mode : StreamMode) (output last : Text) (made : Result (List Text) E) → IsPacketText last
-    → IfOk made (λ texts. texts ≡ to_ide mode output ++ last ∷ [])
+pub all_texts : {E : Type 0} (mode : StreamMode) (output : Text) (before : List Text) (last : Text)
+    (made : Result (List Text) E) → AllByRecursion IsPacketText before → IsPacketText last
+    → IfOk made (λ texts. texts ≡ to_ide mode output ++ before ++ last ∷ [])
     → IfOk made (λ texts. AllByRecursion IsPacketText texts)
-all_texts mode output last (Ok texts) h is =
-    subst (AllByRecursion IsPacketText) (sym is) (sent_texts mode output last h)
-all_texts mode output last (Err e) h is = tt
+all_texts mode output before last (Ok texts) k h is =
+    subst (AllByRecursion IsPacketText) (sym is) (sent_texts mode output before last k h)
+all_texts mode output before last (Err e) k h is = tt
 
 -- ---- one after another
 

@@ -10,6 +10,7 @@ use Rattle.dp_tree.specs.declared.bundle.Bundle.{Bundle}
 use Rattle.dp_tree.specs.FileNames.{AreFileNames}
 use Rattle.dp_break.specs.Tables.{Table}
 use Rattle.dp_breakpoint_commands.specs.Commands.{breakpoint_refusal, breakpoint_response, breakpoint_table}
+use Rattle.dp_breakpoint_commands.specs.Notices.{breakpoint_notice}
 use Rattle.dp_command.specs.declared.command.Continuation.{Continuation}
 use Rattle.dp_command.specs.declared.command.Command.{Command}
 use Rattle.dp_command.specs.declared.command.StreamMode.{StreamMode}
@@ -31,13 +32,14 @@ use Rattle.dp_command.specs.Refusals.{admission_refusal, code_of, coded, fits_ro
 use Rattle.dp_engine.specs.NextStop.{stop_past, table_past}
 use Rattle.dp_engine.specs.Stops.{stops}
 use Rattle.dp_engine.proofs.StopMoments.{stop_is_there}
-use Rattle.dp_features.specs.Features.{Features}
+use Rattle.dp_features.specs.Features.{Features, resolves}
 use Rattle.dp_meaning.specs.declared.writes.NumberedWrite.{NumberedWrite}
 use Rattle.dp_meaning.specs.declared.writes.Write.{Write as ProgramWrite}
 use Rattle.dp_meaning.specs.Trace.{now, outcome, program_trace}
 use Rattle.dp_meaning_laws.proofs.Whole.{end-can, now-can}
 use Rattle.dp_packet.specs.declared.error_codes.ErrorCode.{ErrorCode}
 use Rattle.dp_packet.specs.declared.error_codes.ErrorCode.TheVariants.{DuplicateArguments, InvalidOptions, UnimplementedCommand, CommandNotAvailable}
+use Rattle.dp_packet.specs.declared.packet.Notify.{Notify}
 use Rattle.dp_packet.specs.declared.packet.Response.{Response}
 use Rattle.dp_packet.specs.declared.packet.Body.TheVariants as body
 use Rattle.dp_packet.specs.declared.packet.Packet.TheVariants as packet
@@ -60,7 +62,7 @@ use Rattle.dp_engine.specs.declared.states.Phase.TheVariants as phase
 use Rattle.dp_engine.specs.declared.states.Position.{Position}
 use Rattle.dp_engine.specs.declared.states.Position.TheVariants.{Starting, Break, Stopping}
 use Rattle.dp_engine.specs.declared.replies.Turn.{Turn as Made}
-use Rattle.dp_engine.specs.Answers.{Turn, breakpoints_done, end_by_stop, gone_on, in_packet, kept_if, moved, performed, refused, response_in, shown, turn_by_command, turn_of, with_write, written}
+use Rattle.dp_engine.specs.Answers.{Turn, breakpoints_done, end_by_stop, gone_on, in_packet, kept_if, moved, news, performed, refused, response_in, shown, turn_by_command, turn_of, with_write, written}
 use Rattle.dp_engine.specs.Refusals.{of_command, own_tests, refusal_of_line, row_tests, tests}
 use Rattle.dp_engine.specs.Responses.{fault_response, response as response_of, response_text}
 use Rattle.dp_engine.specs.Session.{State, here, moments_by, moments_so_far, output_by, output_so_far, program_by, program_of, steps_between, steps_left, unwritten, whole_output}
@@ -68,7 +70,8 @@ use Rattle.dp_engine.specs.States.{allows}
 use Rattle.dp_engine.specs.inner.KeptWrites.{IsKeptWrite}
 use Rattle.dp_engine.specs.inner.Sizes.{Fits}
 use Rattle.dp_engine.specs.inner.Position.{IsAt, IsDeep, end_of, known, phase_of}
-use Rattle.dp_engine.specs.inner.Turns.{IsTimely, IsTurn, ReadsCommand, Responds, answered, answered_by}
+use Rattle.dp_engine.specs.Wishes.{wishes_of}
+use Rattle.dp_engine.specs.inner.Turns.{IsTimely, IsTurn, ReadsCommand, Responds, Tells, answered, answered_by}
 use Rattle.dp_engine.proofs.RefusalLaws.{first_for, writes_at_break}
 
 -- ---- what a line asks for
@@ -186,7 +189,7 @@ turn_accepted state next line command name id made n i e h =
 
 -- a turn that is told so, where the session knows then what is asked for
 pub turns : {E : Type 0} (asked : Turn) (next : State) (made : Result Made E)
-    → IfOk made (Responds asked.response asked.ended) → next ≡ asked.next → IfOk made (IsTurn asked next)
+    → IfOk made (Tells asked.before asked.response asked.ended) → next ≡ asked.next → IfOk made (IsTurn asked next)
 turns asked next (Ok made) t n = record { responds = t; next = n }
 turns asked next (Err e) t n = tt
 
@@ -211,13 +214,16 @@ own_refused state next name id r code made e n h =
     same_turn next _ _ made (ap (λ (c : Option ErrorCode). answered_by c name id r state) (sym e))
     (turns (refused name id code state) next made h n)
 
--- a response that is the one asked for, after which the session goes on
-responds_all : {E : Type 0} (asked : Turn) (next : State) (response : Response) (made : Result Made E)
-    → IfOk made (Responds response None) → response ≡ asked.response → next ≡ asked.next → None ≡ asked.ended
+-- a response that is the one asked for, behind what is asked for, after which the session goes on
+responds_all : {E : Type 0} (asked : Turn) (next : State) (before : List Text) (response : Response)
+    (made : Result Made E)
+    → IfOk made (Tells before response None) → before ≡ asked.before → response ≡ asked.response → next ≡ asked.next
+    → None ≡ asked.ended
     → IfOk made (IsTurn asked next)
-responds_all asked next response made t r n e =
-    turns asked next made (subst (λ (x : Option SessionEnd). IfOk made (Responds asked.response x)) e
-    (subst (λ (x : Response). IfOk made (Responds x None)) r t)) n
+responds_all asked next before response made t b r n e =
+    turns asked next made (subst (λ (x : Option SessionEnd). IfOk made (Tells asked.before asked.response x)) e
+    (subst (λ (x : Response). IfOk made (Tells asked.before x None)) r
+    (subst (λ (x : List Text). IfOk made (Tells x response None)) b t))) n
 
 -- a program whose files have names has a file
 pub has_files : (bundle : Bundle) → AreFileNames (map (λ f. f.name) bundle.files) → 0 < length bundle.files
@@ -238,34 +244,41 @@ in_packet_is name id r short =
 
 -- a request of breakpoints that is not refused
 pub breakpoints_respond : {E : Type 0} (state next : State) (name id : Text) (r : BreakpointRequest)
-    (response : Response) (made : Result Made E)
-    → breakpoint_refusal state.bundle (here state) state.breaks r ≡ None
-    → response ≡ breakpoint_response state.bundle name id state.breaks r
+    (notice : Option Notify) (response : Response) (made : Result Made E)
+    → breakpoint_refusal (resolves state.features) state.bundle (here state) state.breaks r ≡ None
+    → notice ≡ breakpoint_notice (wishes_of state.features) state.bundle (here state) state.breaks r
+    → response ≡ breakpoint_response (resolves state.features) state.bundle name id state.breaks r
     → length (text (packet.Response response)) ≤ packet_limit
-    → next ≡ record state { breaks = breakpoint_table state.bundle (here state) r state.breaks }
-    → IfOk made (Responds response None) → IfOk made (IsTurn (answered name id (Breakpoints r) state) next)
-breakpoints_respond state next name id r response made e is short n t =
+    → next ≡ record state {
+      breaks = breakpoint_table (resolves state.features) state.bundle (here state) r state.breaks;
+    }
+    → IfOk made (Tells (news notice) response None) → IfOk made (IsTurn (answered name id (Breakpoints r) state) next)
+breakpoints_respond state next name id r notice response made e told is short n t =
     same_turn next _ _ made
     (sym (ap (λ (c : Option ErrorCode). answered_by c name id (Breakpoints r) state) (first_for
-    (breakpoint_refusal state.bundle (here state) state.breaks r) ∙ e)))
-    (responds_all (breakpoints_done name id r state) next response made t
+    (breakpoint_refusal (resolves state.features) state.bundle (here state) state.breaks r) ∙ e)))
+    (responds_all (breakpoints_done name id r state) next (news notice) response made t (ap news told)
     (in_packet_is name id response short ∙ ap (in_packet name id) is) n refl)
 
 -- done where the program stands
 pub breakpoints_turn : {E : Type 0} (state : State) (program : Program_state) (file : ℕ) (left : Table)
-    (name id : Text) (r : BreakpointRequest) (response : Response) (made : Result Made E)
+    (name id : Text) (r : BreakpointRequest) (notice : Option Notify) (response : Response) (made : Result Made E)
     → program ≡ program_of state → file ≡ file_of program
-    → breakpoint_refusal state.bundle file state.breaks r ≡ None
-    → response ≡ breakpoint_response state.bundle name id state.breaks r
-    → length (text (packet.Response response)) ≤ packet_limit → left ≡ breakpoint_table state.bundle file r state.breaks
-    → IfOk made (Responds response None)
+    → breakpoint_refusal (resolves state.features) state.bundle file state.breaks r ≡ None
+    → notice ≡ breakpoint_notice (wishes_of state.features) state.bundle file state.breaks r
+    → response ≡ breakpoint_response (resolves state.features) state.bundle name id state.breaks r
+    → length (text (packet.Response response)) ≤ packet_limit
+    → left ≡ breakpoint_table (resolves state.features) state.bundle file r state.breaks
+    → IfOk made (Tells (news notice) response None)
     → IfOk made (IsTurn (answered name id (Breakpoints r) state) (record state { breaks = left }))
-breakpoints_turn state program file left name id r response made is f e told short n t =
+breakpoints_turn state program file left name id r notice response made is f e told answer short n t =
     let there : here state ≡ file = sym (f ∙ ap file_of is) in
-    breakpoints_respond state (record state { breaks = left }) name id r response made
-    (ap (λ (k : ℕ). breakpoint_refusal state.bundle k state.breaks r) there ∙ e) told short
+    breakpoints_respond state (record state { breaks = left }) name id r notice response made
+    (ap (λ (k : ℕ). breakpoint_refusal (resolves state.features) state.bundle k state.breaks r) there ∙ e)
+    (told ∙ ap (λ (k : ℕ). breakpoint_notice (wishes_of state.features) state.bundle k state.breaks r) (sym there))
+    answer short
     (ap (λ (l : Table). record state { breaks = l }) (n
-    ∙ ap (λ (k : ℕ). breakpoint_table state.bundle k r state.breaks) (sym there))) t
+    ∙ ap (λ (k : ℕ). breakpoint_table (resolves state.features) state.bundle k r state.breaks) (sym there))) t
 
 -- what is seen of the program where it stands
 pub view_is : (state : State) (program : Program_state) (file : ℕ) (name id : Text) (r : LookRequest)
@@ -286,7 +299,7 @@ view_responds state name id r response made e t =
     same_turn state _ _ made
     (sym (ap (λ (c : Option ErrorCode). answered_by c name id (Look r) state) (first_for
     (view_refusal state.bundle (here state) state.features (program_of state) name id r) ∙ ap code_in e)))
-    (responds_all (shown name id r state) state response made t (ap (response_in name id) (sym e)) refl refl)
+    (responds_all (shown name id r state) state [] response made t refl (ap (response_in name id) (sym e)) refl refl)
 
 pub view_refused : (state : State) (name id : Text) (r : LookRequest) (code : ErrorCode)
     → view_response state.bundle (here state) state.features (program_of state) name id r ≡ Err code
@@ -313,7 +326,7 @@ write_responds state next name id r w response made e asked is t =
     same_turn next _ _ made
     (sym (ap (λ (c : Option ErrorCode). answered_by c name id (Write r) state) (first_for
     (write_refusal state.bundle state.features (program_of state) name id r) ∙ ap code_written e)))
-    (responds_all (written name id r state) next response made t (ap (response_in name id) (sym e))
+    (responds_all (written name id r state) next [] response made t refl (ap (response_in name id) (sym e))
     (is ∙ (λ i. kept_if (sym e i) (sym asked i) state)) refl)
 
 -- what the program has written so far is what has been written in its state
@@ -348,33 +361,33 @@ within bundle bound writes (suc k) m stands =
 -- ---- what a session keeps
 
 module _ (bundle : Bundle) (bound : ℕ) (writes : List NumberedWrite) (moment : ℕ) (position : Position)
-    (features : Features) (stdout : StreamMode) (breaks : Table) (machine : Machine) where
+    (features : Features) (stdout : StreamMode) (breaks : Table) (failed : Bool) (machine : Machine) where
   abbrev state : State
-  state = known bundle bound writes moment position features stdout breaks
+  state = known bundle bound writes moment position features stdout breaks failed
 
-  abbrev Kept : Bool → Type 0
-  Kept failed = IsAt failed position bundle bound writes moment machine
+  abbrev Kept : Type 0
+  Kept = IsAt failed position bundle bound writes moment machine
 
   -- its program is the one of the machine
-  pub program_is : (failed : Bool) → failed ≡ false → Kept failed → machine.state ≡ program_of state
-  program_is failed whole h = by position h where
+  pub program_is : failed ≡ false → Kept → machine.state ≡ program_of state
+  program_is whole h = by position h where
     by : (s : Position) → IsAt failed s bundle bound writes moment machine
-        → machine.state ≡ program_of (known bundle bound writes moment s features stdout breaks)
+        → machine.state ≡ program_of (known bundle bound writes moment s features stdout breaks failed)
     by Starting h = sym (ap (λ (o : Option Program_state). unwrap_or o (first_state bundle)) (h whole).state)
     by Break h = sym (ap (λ (o : Option Program_state). unwrap_or o (first_state bundle)) (h.1 whole).state)
     by (Stopping end) h = h.1
 
-  pub program_can : (failed : Bool) → failed ≡ false → 0 < length bundle.files → Kept failed → IsOf bundle machine.state
-  program_can failed whole some h = by position h where
+  pub program_can : failed ≡ false → 0 < length bundle.files → Kept → IsOf bundle machine.state
+  program_can whole some h = by position h where
     by : (s : Position) → IsAt failed s bundle bound writes moment machine → IsOf bundle machine.state
     by Starting h = (now-can bundle bound writes some moment machine.state (h whole).state).0
     by Break h = (now-can bundle bound writes some moment machine.state (h.1 whole).state).0
     by (Stopping end) h = subst (IsOf bundle) (sym h.1) (end-can bundle bound writes some).0
 
   -- before the end it stands at the moment
-  pub machine_there : (failed : Bool) → failed ≡ false → phase_of position ≢ phase.Stopping → Kept failed
+  pub machine_there : failed ≡ false → phase_of position ≢ phase.Stopping → Kept
       → StandsFor bundle bound writes moment machine
-  machine_there failed whole before h = by position before h where
+  machine_there whole before h = by position before h where
     by : (s : Position) → phase_of s ≢ phase.Stopping → IsAt failed s bundle bound writes moment machine
         → StandsFor bundle bound writes moment machine
     by Starting n h = h whole
@@ -390,9 +403,9 @@ module _ (bundle : Bundle) (bound : ℕ) (writes : List NumberedWrite) (moment :
     by (Stopping end) n = absurd (n refl)
 
   -- once it has failed, nothing is said of the machine
-  pub nothing_kept : (failed : Bool) (left : Machine) → phase_of position ≢ phase.Stopping → Kept failed
+  pub nothing_kept : (left : Machine) → phase_of position ≢ phase.Stopping → Kept
       → IsAt true position bundle bound writes moment left
-  nothing_kept failed left before h = by position before h where
+  nothing_kept left before h = by position before h where
     by : (s : Position) → phase_of s ≢ phase.Stopping → IsAt failed s bundle bound writes moment machine
         → IsAt true s bundle bound writes moment left
     by Starting n h = λ e. absurd cc
@@ -400,8 +413,8 @@ module _ (bundle : Bundle) (bound : ℕ) (writes : List NumberedWrite) (moment :
     by (Stopping end) n h = absurd (n refl)
 
   -- nor of one that has failed and was left as it was
-  pub still_kept : (failed : Bool) → Kept failed → IsAt true position bundle bound writes moment machine
-  still_kept failed h = by position h where
+  pub still_kept : Kept → IsAt true position bundle bound writes moment machine
+  still_kept h = by position h where
     by : (s : Position) → IsAt failed s bundle bound writes moment machine
         → IsAt true s bundle bound writes moment machine
     by Starting h = λ e. absurd cc
@@ -419,16 +432,16 @@ module _ (bundle : Bundle) (bound : ℕ) (writes : List NumberedWrite) (moment :
 
     -- to a moment
     pub goes_to : (number : ℕ) (left : Table) → stop_from depth ≡ Some number → left ≡ table_from depth
-        → known bundle bound writes number Break features stdout left ≡ gone_on mode state
+        → known bundle bound writes number Break features stdout left failed ≡ gone_on mode state
     goes_to number left stop is =
         λ i. moved (record state { breaks = (is ∙ ap table_from deep) i }) ((sym stop ∙ ap stop_from deep) i)
 
     -- to the end
     pub goes_out : (end : Outcome) (left : Table) → stop_from depth ≡ None → end ≡ outcome bundle bound writes
         → left ≡ table_from depth
-        → known bundle bound writes moment (Stopping end) features stdout left ≡ gone_on mode state
+        → known bundle bound writes moment (Stopping end) features stdout left failed ≡ gone_on mode state
     goes_out end left stop ends is =
-        ap (λ (o : Outcome). known bundle bound writes moment (Stopping o) features stdout left) ends
+        ap (λ (o : Outcome). known bundle bound writes moment (Stopping o) features stdout left failed) ends
         ∙ (λ i. moved (record state { breaks = (is ∙ ap table_from deep) i }) ((sym stop ∙ ap stop_from deep) i))
 
     -- a stop is at a later moment
@@ -440,13 +453,14 @@ module _ (bundle : Bundle) (bound : ℕ) (writes : List NumberedWrite) (moment :
   -- the steps on the way
   pub counts_to : (before after number : ℕ) (left : Table) → phase_of position ≢ phase.Stopping → moment < number
       → after + moment ≡ before + number
-      → after ≡ before + steps_between state (known bundle bound writes number Break features stdout left)
+      → after ≡ before + steps_between state (known bundle bound writes number Break features stdout left failed)
   counts_to before after number left n later counted = omega (arith, moments_are n, later, counted)
 
   pub counts_out : (before after : ℕ) (end : Outcome) (left : Table) → phase_of position ≢ phase.Stopping
       → StandsFor bundle bound writes moment machine
       → after + moment ≡ before + length (program_trace bundle bound writes).moments
-      → after ≡ before + steps_between state (known bundle bound writes moment (Stopping end) features stdout left)
+      → after ≡ before + steps_between state (known bundle bound writes moment (Stopping end) features stdout left
+      failed)
   counts_out before after end left n stands counted =
       omega (arith, moments_are n, within bundle bound writes moment machine stands, counted)
 
@@ -459,7 +473,7 @@ module _ (bundle : Bundle) (bound : ℕ) (writes : List NumberedWrite) (moment :
   -- ---- a write is kept
 
   abbrev with_kept : List NumberedWrite → State
-  with_kept kept = known bundle bound kept moment position features stdout breaks
+  with_kept kept = known bundle bound kept moment position features stdout breaks failed
 
   pub write_turn : {E : Type 0} (after : Program_state) (kept : List NumberedWrite) (command id : Text)
       (r : WriteRequest) (response : Response) (made : Result Made E)
@@ -492,7 +506,7 @@ pub stops_so : (failed : Bool) (position : Position) (bundle : Bundle) (bound : 
     (moment : ℕ) (machine : Machine) (features : Features) (stdout : StreamMode) (breaks : Table)
     → IsAt failed position bundle bound writes moment machine
     → end_of position ≡ end_by_stop (phase_of position) (known bundle bound writes moment position features stdout
-    breaks)
+    breaks failed)
 stops_so failed Starting bundle bound writes moment machine features stdout breaks h = refl
 stops_so failed Break bundle bound writes moment machine features stdout breaks h = refl
 stops_so failed (Stopping end) bundle bound writes moment machine features stdout breaks h = ap Finished h.0

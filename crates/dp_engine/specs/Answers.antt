@@ -3,6 +3,7 @@
 use Rattle.std.specs.Prelude.{ℕ, nat_le, true, false, if◌then◌else◌, List, length, [], ◌∷◌, ◌++◌, Option, Some, None, Result, Ok, Err, is_some, option_map, option_and_then, codes}
 use Rattle.std.specs.Option.{option_map_or}
 use Rattle.dp_breakpoint_commands.specs.Commands.{breakpoint_response, breakpoint_table}
+use Rattle.dp_breakpoint_commands.specs.Notices.{breakpoint_notice}
 use Rattle.dp_command.specs.declared.command.Command.{Command}
 use Rattle.dp_command.specs.declared.command.Continuation.{Continuation}
 use Rattle.dp_command.specs.declared.command.Finish.TheVariants.{Stop, Detach}
@@ -23,11 +24,12 @@ use Rattle.dp_command.specs.Lines.{line_of}
 use Rattle.dp_command.specs.Names.{name_of}
 use Rattle.dp_command.specs.Refusals.{id_of}
 use Rattle.dp_features.specs.declared.feature.Feature.{Feature}
-use Rattle.dp_features.specs.Features.{Features, feature_named, setting_named, value_of, with_setting}
+use Rattle.dp_features.specs.Features.{Features, feature_named, resolves, setting_named, value_of, with_setting}
 use Rattle.dp_meaning.specs.declared.writes.Write.{Write}
 use Rattle.dp_packet.specs.declared.error_codes.ErrorCode.{ErrorCode}
 use Rattle.dp_packet.specs.declared.error_codes.ErrorCode.TheVariants.{UnimplementedCommand}
 use Rattle.dp_packet.specs.declared.packet.Body.TheVariants as body
+use Rattle.dp_packet.specs.declared.packet.Notify.{Notify}
 use Rattle.dp_packet.specs.declared.packet.Response.{Response}
 use Rattle.dp_packet.specs.Parts.{Text, flag}
 use Rattle.dp_conversation.specs.Folds.{Reply}
@@ -41,20 +43,22 @@ use Rattle.dp_engine.specs.declared.states.Phase.{Phase}
 use Rattle.dp_engine.specs.declared.states.Phase.TheVariants.{Starting, Break, Stopping}
 use Rattle.dp_engine.specs.declared.states.Reason.TheVariants as reason
 use Rattle.dp_engine.specs.Refusals.{refusal_of_line}
-use Rattle.dp_engine.specs.Responses.{response, response_text, status_response, feature_response, set_response, success_response, fault_response, streams}
+use Rattle.dp_engine.specs.Responses.{notice_text, response, response_text, status_response, feature_response, set_response, success_response, fault_response, streams}
 use Rattle.dp_engine.specs.Session.{State, breaks_of, here, outcome_of, program_of, stop_of, written_between}
+use Rattle.dp_engine.specs.Wishes.{wishes_of}
 use Rattle.dp_engine.specs.States.{phase_name, reason_name, reason_of}
 
--- What a command leads to: its response, what the session knows then, and how it has ended, if it
--- has.
+-- What a command leads to: the packets that go before its response, the response, what the session
+-- knows then, and how it has ended, if it has.
 pub record Turn : Type 0 where
+  pub before : List Text
   pub response : Response
   pub next : State
   pub ended : Option SessionEnd
 
 -- a response that ends nothing
 abbrev pub goes_on : Response → State → Turn
-goes_on r next = record { response = r; next = next; ended = None }
+goes_on r next = record { before = []; response = r; next = next; ended = None }
 
 -- ---- going on
 
@@ -93,6 +97,7 @@ continued command id mode Starting state = advanced command id mode state
 continued command id mode Break state = advanced command id mode state
 continued command id mode Stopping state =
     record {
+      before = [];
       response = stopped_response command id;
       next = state;
       ended = Some (Finished (outcome_of state));
@@ -108,6 +113,7 @@ end_by_stop Stopping state = Finished (outcome_of state)
 
 abbrev pub stopped : Text → Text → State → Turn
 stopped command id state = record {
+  before = [];
   response = stopped_response command id;
   next = state;
   ended = Some (end_by_stop state.phase state);
@@ -116,6 +122,7 @@ stopped command id state = record {
 abbrev pub detached : Text → Text → State → Turn
 detached command id state =
     record {
+      before = [];
       response = status_response command id (codes "stopping") (codes "ok");
       next = state;
       ended = Some Detached;
@@ -159,12 +166,27 @@ in_packet command id r =
     if nat_le (length (response_text r)) packet_limit then r
     else response command id [] body.Nothing
 
--- the breakpoints are as the command makes them
+-- news, if a packet has room for them; those of a breakpoint always find room
+abbrev pub news : Option Notify → List Text
+news None = []
+news (Some n) = if nat_le (length (notice_text n)) packet_limit then notice_text n ∷ [] else []
+
+-- the breakpoints are as the command makes them, and the IDE is told of one that moved
 abbrev pub breakpoints_done : Text → Text → BreakpointRequest → State → Turn
 breakpoints_done command id r state =
-    goes_on
-    (in_packet command id (breakpoint_response state.bundle command id state.breaks r))
-    (record state { breaks = breakpoint_table state.bundle (here state) r state.breaks })
+    let resolve = resolves state.features in
+    record {
+      before =
+          news (breakpoint_notice (wishes_of state.features) state.bundle (here state)
+          state.breaks r);
+      response =
+          in_packet command id (breakpoint_response resolve state.bundle command id state.breaks r);
+      next =
+          record state {
+            breaks = breakpoint_table resolve state.bundle (here state) r state.breaks;
+          };
+      ended = None;
+    }
 
 -- what is shown, or why it is not
 abbrev pub response_in : Text → Text → Result Response ErrorCode → Response
@@ -260,11 +282,11 @@ to_program Disable output = output
 to_program Copy output = output
 to_program Redirect output = []
 
--- the output that the program wrote in this turn goes out before the response
+-- the output that the program wrote in this turn goes out first, and the response last
 abbrev pub sent : State → Turn → Reply State SessionEnd
 sent state taken = record {
   packets =
-      to_ide state.stdout (written_between state taken.next)
+      to_ide state.stdout (written_between state taken.next) ++ taken.before
       ++ response_text taken.response ∷ [];
   program = to_program state.stdout (written_between state taken.next);
   state = taken.next;

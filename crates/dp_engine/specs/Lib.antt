@@ -2,6 +2,7 @@ pub mod Stops
 pub mod NextStop
 pub mod States
 pub mod Session
+pub mod Wishes
 pub mod Responses
 pub mod Refusals
 pub mod Answers

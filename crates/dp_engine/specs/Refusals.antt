@@ -15,7 +15,7 @@ use Rattle.dp_command.specs.Names.{name_of}
 use Rattle.dp_command.specs.Refusals.{coded, fits_row, id_of}
 use Rattle.dp_command.specs.declared.errors.Refusal.TheVariants.{Duplicate, Unimplemented, NoId}
 use Rattle.dp_command.specs.Tests.{Test, first_code}
-use Rattle.dp_features.specs.Features.{is_other_encoding, setting_named}
+use Rattle.dp_features.specs.Features.{is_other_encoding, resolves, setting_named}
 use Rattle.dp_packet.specs.declared.error_codes.ErrorCode.{ErrorCode}
 use Rattle.dp_packet.specs.declared.error_codes.ErrorCode.TheVariants.{ParseError, InvalidOptions, CommandNotAvailable, EncodingNotSupported}
 use Rattle.dp_packet.specs.Parts.{Text}
@@ -45,7 +45,8 @@ session_tests other = []
 abbrev pub own_tests : State → Text → Text → Request → List Test
 own_tests state command id (Session r) = session_tests r
 own_tests state command id (Breakpoints r) =
-    tests_for (breakpoint_refusal state.bundle (here state) state.breaks r)
+    tests_for
+    (breakpoint_refusal (resolves state.features) state.bundle (here state) state.breaks r)
 own_tests state command id (Look r) =
     tests_for
     (view_refusal state.bundle (here state) state.features (program_of state) command id r)

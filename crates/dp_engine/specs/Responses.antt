@@ -8,6 +8,7 @@ use Rattle.dp_packet.specs.declared.error_codes.ErrorCode.{ErrorCode}
 use Rattle.dp_packet.specs.declared.packet.Body.{Body}
 use Rattle.dp_packet.specs.declared.packet.Body.TheVariants as body
 use Rattle.dp_packet.specs.declared.packet.Packet.TheVariants as packet
+use Rattle.dp_packet.specs.declared.packet.Notify.{Notify}
 use Rattle.dp_packet.specs.declared.packet.Response.{Response}
 pub use Rattle.dp_packet.specs.Packets.{response}
 use Rattle.dp_packet.specs.Messages.{number}
@@ -68,6 +69,9 @@ fault_in what = None
 
 unfoldable pub response_text : Response → Text
 response_text r = text (packet.Response r)
+
+abbrev pub notice_text : Notify → Text
+notice_text n = text (packet.Notify n)
 
 -- ---- output
 

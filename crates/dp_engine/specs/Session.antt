@@ -1,5 +1,5 @@
 -- What a session of the engine with one IDE knows.
-use Rattle.std.specs.Prelude.{ℕ, ◌-◌, List, [], length, drop, Option, unwrap_or}
+use Rattle.std.specs.Prelude.{ℕ, ◌-◌, Bool, false, List, [], length, drop, Option, unwrap_or}
 use Rattle.std.specs.Option.{option_map_or}
 use Rattle.dp_tree.specs.declared.bundle.Bundle.{Bundle}
 use Rattle.dp_break.specs.Tables.{Table, empty}
@@ -22,7 +22,8 @@ use Rattle.dp_engine.specs.declared.states.Reason.TheVariants as reason
 
 -- The program and the bound of its moments, the writes that were accepted, the number of the
 -- current moment (0 before the first), the state and the reason last given, the features, where
--- output goes, and the breakpoints that are held.
+-- output goes, the breakpoints that are held, and whether memory has run out: it answers nothing
+-- more then.
 pub record State : Type 0 where
   pub bundle : Bundle
   pub bound : ℕ
@@ -33,6 +34,7 @@ pub record State : Type 0 where
   pub features : Features
   pub stdout : StreamMode
   pub breaks : Table
+  pub failed : Bool
 
 -- what it begins with
 abbrev pub opening : Bundle → ℕ → State
@@ -46,6 +48,7 @@ opening bundle bound = record {
   features = defaults;
   stdout = Disable;
   breaks = empty;
+  failed = false;
 }
 
 -- ---- the program's run, with the writes

@@ -6,3 +6,4 @@ pub mod Turns
 pub mod Sizes
 pub mod RestOfRun
 pub mod KeptWrites
+pub mod Unseen

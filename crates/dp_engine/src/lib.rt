@@ -2,7 +2,9 @@
 #![tactic(auto)]
 
 mod laws;
+mod metered;
 mod moves;
+mod past;
 mod reached;
 mod refusals;
 mod replies;
@@ -18,6 +20,7 @@ mod writes;
 pub use dp_step::Steps;
 pub use dp_value::Memory;
 pub use laws::stops_are_moments;
+pub use metered::Metered;
 pub use moves::go_on_from;
 pub use reached::Reached;
 pub use service::{ServeEnd, Served, serve};

@@ -11,6 +11,7 @@ ghost use Rattle.dp_state.specs.States.{IsOf};
 ghost use Rattle.dp_step.specs.Stands.{StandsFor};
 ghost use Rattle.dp_tree.specs.declared.bundle.Bundle.{Bundle as SomeBundle};
 
+use crate::past::go_on;
 use crate::reached::Reached;
 use crate::stops::is_stop;
 use dp_break::{Breakpoint, Breaks};
@@ -91,7 +92,7 @@ fn go_on_watched<L: Ledger>(
         → IfOk result (λ reached. steps.new + n ≡ steps.old + reached_moment bundle.now bound writes reached) }
 {
     for _ in 0..u64::MAX {
-        match machine.step(steps)? {
+        match go_on(machine, mode, breaks, steps)? {
             Progress::At(moment) => {
                 if pass(bundle, mode, depth, &moment, machine.state(), breaks)? {
                     return Ok(Reached::Moment {

@@ -1,28 +1,34 @@
 //! What a command tells, where nothing else is done for it.
-ghost use Rattle.std.specs.Prelude.{◌≡◌, ◌≤◌, codes, length, is_some, IfOk, None, Some};
+ghost use Rattle.std.specs.Prelude.{◌≡◌, ◌≤◌, codes, length, is_some, option_to_list, IfOk, IfSome, None, Some};
+ghost use Rattle.std.specs.List.{AllByRecursion};
 ghost use Rattle.dp_command.specs.Names.{name_of};
 ghost use Rattle.dp_features.specs.Features.{feature_named};
 ghost use Rattle.dp_packet.specs.Parts.{flag};
-ghost use Rattle.dp_wire.specs.Frames.{command_limit};
+ghost use Rattle.dp_packet.specs.declared.packet.Packet.TheVariants as packet;
+ghost use Rattle.dp_packet.specs.Text.{text};
+ghost use Rattle.dp_wire.specs.Frames.{IsPacketText, command_limit, packet_limit};
 ghost use Rattle.dp_engine.specs.Answers as spec;
 ghost use Rattle.dp_engine.specs.Responses.{fault_response, status_response};
 ghost use Rattle.dp_engine.specs.States.{phase_name, reason_name};
 ghost use Rattle.dp_engine.specs.inner.Sizes.{Fits};
 ghost use Rattle.dp_engine.specs.inner.Position.{phase_of, reason_at};
-ghost use Rattle.dp_engine.specs.inner.Turns.{Responds};
+ghost use Rattle.dp_engine.specs.inner.Turns.{Responds, Tells};
 
 use crate::responses;
 use crate::session::SessionEnd;
 use crate::states::Position;
+use dp_breakpoint_commands::Answered;
 use dp_command::{Addressee, CommandName};
 use dp_features::{Feature, Features};
-use dp_packet::{ErrorCode, Response};
+use dp_packet::{ErrorCode, Notify, Packet, Response, text_of};
 use dp_value::{Bytes, Memory};
 use std::alloc::Global;
 
 /// What one command tells, and how it has ended its session, if it has.
 #[derive(Debug, Drop)]
 pub(crate) struct Turn {
+    /// The text of the news that go before its response.
+    pub(crate) before: Option<Bytes>,
     /// The text of its response.
     pub(crate) text: Bytes,
     pub(crate) ended: Option<SessionEnd>,
@@ -34,7 +40,39 @@ fn turn_with(alloc: Global, response: Response, ended: Option<SessionEnd>) -> Re
     ensures { IfOk result (Responds response ended) }
 {
     let text = responses::text(alloc, response)?;
-    Ok(Turn { text, ended })
+    Ok(Turn {
+        before: None,
+        text,
+        ended,
+    })
+}
+
+/// The text of news, if there are any.
+fn news(alloc: Global, notice: Option<Notify>) -> Result<Option<Bytes>, Memory>
+    requires { IfSome notice (λ n. length (text (packet.Notify n)) ≤ packet_limit) }
+    ensures value { IfOk result (λ before. option_to_list before ≡ spec.news notice) }
+    ensures are_texts { IfOk result (λ before. AllByRecursion IsPacketText (option_to_list before)) }
+{
+    match notice {
+        None => Ok(None),
+        Some(notice) => Ok(Some(text_of(alloc, &Packet::Notify(notice))?)),
+    }
+}
+
+/// A response behind news, if there are any, after which the session goes on.
+pub(crate) fn tell_behind(alloc: Global, answered: Answered) -> Result<Turn, Memory>
+    requires fits { Fits answered.response }
+    requires room { IfSome answered.notice (λ n. length (text (packet.Notify n)) ≤ packet_limit) }
+    ensures { IfOk result (Tells (spec.news answered.notice) answered.response None) }
+{
+    let Answered { notice, response } = answered;
+    let before = news(alloc, notice)?;
+    let text = responses::text(alloc, response)?;
+    Ok(Turn {
+        before,
+        text,
+        ended: None,
+    })
 }
 
 /// A response, after which the session goes on.

@@ -7,14 +7,14 @@ ghost use Rattle.dp_engine.specs.Responses.{init_text};
 ghost use Rattle.dp_engine.specs.Service.{Serves};
 ghost use Rattle.dp_engine.specs.Session.{opening};
 
-use crate::session::{Answer, Session, SessionEnd};
-use dp_conversation::{Fault, Responder, SessionOver, converse, put_unless_empty};
+use crate::metered::Metered;
+use crate::session::{Session, SessionEnd};
+use dp_conversation::{Fault, SessionOver, converse, put_unless_empty};
 use dp_outside::{Sink, Source};
 use dp_state::Outcome;
 use dp_step::Steps;
-use dp_value::{Bytes, Memory};
+use dp_value::Bytes;
 use std::alloc::Global;
-use std::marker::Model;
 use std::sync::ledger::Ledger;
 
 /// How a session over a link ended.
@@ -46,40 +46,6 @@ pub enum ServeEnd {
 pub struct Served {
     pub end: ServeEnd,
     pub outcome: Option<Outcome>,
-}
-
-/// A session, and the steps that it counts. Contracts see what the session knows.
-#[derive(Drop)]
-struct Counted<'s, 'a, L: Ledger> {
-    session: Session<'a>,
-    steps: &'s mut Steps<L>,
-}
-
-impl<'s, 'a, L: Ledger> Model for Counted<'s, 'a, L> {
-    ghost use Rattle.std.specs.Coded.{codes};
-    ghost use Rattle.dp_break.specs.Tables.{table_code};
-    ghost use Rattle.dp_tree.specs.contracts.bundle.Bundle as bundle_type;
-    ghost use Rattle.dp_meaning.specs.contracts.writes.NumberedWrite as write_type;
-    ghost use Rattle.dp_engine.specs.Session.{State};
-
-    ghost Value = { State };
-
-    ghost coded = { Prim.hlevel (codes, bundle_type.the_row.coded, write_type.the_row.coded, table_code) };
-
-    ghost view = { λ c. c.session };
-}
-
-impl<'s, 'a, L: Ledger> Responder for Counted<'s, 'a, L> {
-    ghost use Rattle.dp_engine.specs.Answers.{answer};
-
-    type End = SessionEnd;
-
-    ghost step = { answer };
-
-    /// The session has an allocator of its own.
-    fn answer(&mut self, _alloc: Global, line: &[u8]) -> Result<Answer, Memory> {
-        self.session.answer(line, self.steps)
-    }
 }
 
 /// A session whose program did not run to its end.
@@ -195,9 +161,9 @@ pub fn serve<S: Source, K: Sink, E: Sink, L: Ledger>(
     ensures sink_later { K.faults sink.old ≤ K.faults sink.new }
     ensures out_later { E.faults out.old ≤ E.faults out.new }
 {
-    let counted = Counted { session, steps };
-    let (over, counted) = converse(alloc, counted, init.as_slice(), source, sink, out);
-    let Counted { session, steps } = counted;
+    let metered = Metered { session, steps };
+    let (over, metered) = converse(alloc, metered, init.as_slice(), source, sink, out);
+    let Metered { session, steps } = metered;
     sink.finish();
     match over {
         Ok(over) => close(session, over, out, steps),

@@ -1,5 +1,5 @@
 //! One session of the engine with an IDE.
-ghost use Rattle.std.specs.Prelude.{◌≡◌, ◌≢◌, ◌+◌, ◌≤◌, [], drop, length, map, IfOk, OnOk};
+ghost use Rattle.std.specs.Prelude.{◌≡◌, ◌≢◌, ◌+◌, ◌≤◌, [], drop, false, length, map, option_to_list, true, IfOk, OnErr, OnOk};
 ghost use Rattle.std.specs.List.{AllByRecursion};
 ghost use Rattle.dp_wire.specs.Frames.{IsCommand, IsPacketText};
 ghost use Rattle.dp_outside.specs.Names.{key_limit};
@@ -77,7 +77,8 @@ impl<'a> Model for Session<'a> {
 
     ghost use Rattle.dp_engine.specs.inner.Position.{known, IsAt, IsDeep};
 
-    ghost view = { λ s. known s.bundle.now s.bound s.writes.items s.moment s.position s.features s.stdout s.breaks };
+    ghost view = { λ s. known s.bundle.now s.bound s.writes.items s.moment s.position s.features s.stdout s.breaks
+        s.failed };
 
     ghost invariant = { λ s. IsAt s.failed s.position s.bundle.now s.bound s.writes.items s.moment s.machine
         × IsDeep s.bundle.now s.bound s.writes.items s.moment s.depth
@@ -110,12 +111,17 @@ fn tail(bytes: &[u8], count: usize) -> &[u8]
 
 /// What is sent of a turn in which so much was written.
 fn give(alloc: Global, mode: StreamMode, written: &[u8], turn: Turn) -> Result<Answer, Memory>
-    requires { IsPacketText turn.text }
+    requires text { IsPacketText turn.text }
+    requires before { AllByRecursion IsPacketText (option_to_list turn.before) }
     ensures ok { IfOk result (λ answer. IsSent mode written.now turn answer) }
     ensures are_texts { IfOk result (λ answer. AllByRecursion IsPacketText answer.packets) }
 {
-    let Turn { text, ended } = turn;
-    let packets = to_ide(alloc, mode, written, text)?;
+    let Turn {
+        before,
+        text,
+        ended,
+    } = turn;
+    let packets = to_ide(alloc, mode, written, before, text)?;
     let program = to_program(alloc, mode, written)?;
     Ok(Answer {
         packets,
@@ -168,8 +174,8 @@ impl<'a> Session<'a> {
         Ok((session, init))
     }
 
-    /// Answers one whole command, without its NUL. Once memory ran out the session has failed for good, and each later
-    /// call answers so.
+    /// Answers one whole command, without its NUL. Where memory runs out the session has failed for good: each later
+    /// call answers that it is out of memory.
     ///
     /// A session that has ended is not asked again: that it has ended is the caller's to keep. A command that goes on
     /// counts a step for each moment that comes on the way; no other command counts any.
@@ -180,6 +186,8 @@ impl<'a> Session<'a> {
         ensures refused { IfOk result (λ answer.
             IsAnsweredBy (refusal self.old line.now) self.old line.now (reply_of answer self.new)) }
         ensures steps { IfOk result (λ answer. steps.new ≡ steps.old + steps_between self.old self.new) }
+        ensures fails { OnErr result (self.new.failed ≡ true) }
+        ensures stays { OnOk result (self.old.failed ≡ false) }
     {
         match self.answer_line(line, steps) {
             Ok(answer) => Ok(answer),
@@ -188,7 +196,9 @@ impl<'a> Session<'a> {
     }
 
     /// From now on it answers that it is out of memory.
-    fn fail(&mut self) -> Memory {
+    fn fail(&mut self) -> Memory
+        ensures { self.new.failed ≡ true }
+    {
         self.failed = true;
         Memory
     }
@@ -205,6 +215,7 @@ impl<'a> Session<'a> {
         ensures refused { IfOk result (λ answer.
             IsAnsweredBy (refusal self.old line.now) self.old line.now (reply_of answer self.new)) }
         ensures steps { IfOk result (λ answer. steps.new ≡ steps.old + steps_between self.old self.new) }
+        ensures stays { OnOk result (self.old.failed ≡ false) }
     {
         let alloc = self.alloc;
         let line = read(alloc, line)?;
@@ -217,8 +228,9 @@ impl<'a> Session<'a> {
         give(alloc, mode, written, turn)
     }
 
-    /// The program's state at the moment, or at its end.
+    /// The program's state at the moment, or at its end, unless the session has failed.
     pub(crate) fn program(&self) -> Result<&State, Memory>
+        ensures stays { OnOk result (self.now.failed ≡ false) }
         ensures state { IfOk result (λ program. program.now ≡ program_of self.now) }
         ensures of { IfOk result (λ program. IsOf self.now.bundle program.now) }
     {
@@ -267,15 +279,16 @@ impl<'a> Session<'a> {
         }
     }
 
-    /// Runs the program on to its end, if it has not ended, and answers the rest of its output and how it ended. Once
-    /// memory ran out in the session it answers so. A program that a command killed would be run on too: whoever serves
-    /// such a session drops it instead.
+    /// Runs the program on to its end, if it has not ended, and answers the rest of its output and how it ended. A
+    /// session that has failed answers that it is out of memory. A program that a command killed would be run on too:
+    /// whoever serves such a session drops it instead.
     ///
     /// A step is counted for each moment that comes on the way.
     pub fn finish<L: Ledger>(mut self, steps: &mut Steps<L>) -> Result<(Bytes, Outcome), Memory>
         ensures rest { IfOk result (λ rest. rest.0 ≡ unwritten self.entry) }
         ensures outcome { IfOk result (λ rest. rest.1 ≡ outcome_of self.entry) }
         ensures steps { IfOk result (λ rest. steps.new ≡ steps.old + steps_left self.entry) }
+        ensures stays { OnOk result (self.entry.failed ≡ false) }
     {
         let rest = self.run_out(steps);
         drop(self);
@@ -287,6 +300,7 @@ impl<'a> Session<'a> {
         ensures rest { IfOk result (λ rest. rest.0 ≡ unwritten self.old) }
         ensures outcome { IfOk result (λ rest. rest.1 ≡ outcome_of self.old) }
         ensures steps { IfOk result (λ rest. steps.new ≡ steps.old + steps_left self.old) }
+        ensures stays { OnOk result (self.old.failed ≡ false) }
     {
         match self.position {
             Position::Starting => self.run_rest(steps),
@@ -306,6 +320,7 @@ impl<'a> Session<'a> {
         ensures rest { IfOk result (λ rest. rest.0 ≡ unwritten self.old) }
         ensures outcome { IfOk result (λ rest. rest.1 ≡ outcome_of self.old) }
         ensures steps { IfOk result (λ rest. steps.new ≡ steps.old + steps_left self.old) }
+        ensures stays { OnOk result (self.old.failed ≡ false) }
     {
         if self.failed {
             return Err(Memory);

@@ -1,5 +1,5 @@
 //! Where the program's output goes.
-ghost use Rattle.std.specs.Prelude.{◌≡◌, ◌∷◌, ◌++◌, [], drop, take, IfOk, OnOk};
+ghost use Rattle.std.specs.Prelude.{◌≡◌, ◌∷◌, ◌++◌, [], drop, option_to_list, take, IfOk, OnOk};
 ghost use Rattle.std.specs.List.{AllByRecursion};
 ghost use Rattle.dp_packet.specs.declared.packet.Packet.TheVariants as packet;
 ghost use Rattle.dp_packet.specs.Text.{text as text_for};
@@ -49,14 +49,16 @@ fn put_streams(alloc: Global, texts: &mut Vec<Bytes>, output: &[u8]) -> Result<(
     Ok(())
 }
 
-/// The output that goes to the IDE, and then this text.
+/// The output that goes to the IDE, then a text, if there is one, and this text last.
 fn gather(
     alloc: Global,
     mode: StreamMode,
     output: &[u8],
+    before: Option<Bytes>,
     text: Bytes,
 ) -> Result<Items<Bytes>, Memory>
-    ensures { IfOk result (λ texts. texts ≡ spec.to_ide mode output.now ++ text ∷ []) }
+    ensures { IfOk result (λ texts. texts ≡
+        spec.to_ide mode output.now ++ option_to_list before ++ text ∷ []) }
 {
     let mut texts = Vec::new(alloc);
     match mode {
@@ -64,22 +66,29 @@ fn gather(
         StreamMode::Copy => put_streams(alloc, &mut texts, output)?,
         StreamMode::Redirect => put_streams(alloc, &mut texts, output)?,
     }
+    match before {
+        Some(news) => texts.push(news)?,
+        None => {}
+    }
     texts.push(text)?;
     Ok(Items::of(texts))
 }
 
-/// What goes to the IDE: the output that goes there, and then this text of a response.
+/// What goes to the IDE: the output that goes there, then news, if there are any, and the text of a response last.
 pub(crate) fn to_ide(
     alloc: Global,
     mode: StreamMode,
     output: &[u8],
+    before: Option<Bytes>,
     text: Bytes,
 ) -> Result<Items<Bytes>, Memory>
-    requires { IsPacketText text }
-    ensures packets { IfOk result (λ texts. texts ≡ spec.to_ide mode output.now ++ text ∷ []) }
+    requires text { IsPacketText text }
+    requires before { AllByRecursion IsPacketText (option_to_list before) }
+    ensures packets { IfOk result (λ texts. texts ≡
+        spec.to_ide mode output.now ++ option_to_list before ++ text ∷ []) }
     ensures are_texts { IfOk result (λ texts. AllByRecursion IsPacketText texts) }
 {
-    gather(alloc, mode, output, text)
+    gather(alloc, mode, output, before, text)
 }
 
 /// What goes to the program's own output.

@@ -3,26 +3,37 @@ ghost use Rattle.std.specs.Prelude.{◌≡◌, ◌≢◌, ◌+◌, ◌≤◌, le
 ghost use Rattle.dp_wire.specs.Frames.{command_limit};
 ghost use Rattle.dp_engine.specs.Refusals.{refusal_of_line};
 ghost use Rattle.dp_engine.specs.Session.{moments_so_far, steps_between};
+ghost use Rattle.dp_engine.specs.Wishes.{wishes_of};
 ghost use Rattle.dp_engine.specs.inner.Sizes.{AreShortNames, IsShort, IsShortLine, IsShortRequest};
 
 use crate::refusals::{feature_refusal, read_command};
-use crate::replies::{Turn, detach, refuse, stop, tell, tell_feature, tell_status};
+use crate::replies::{Turn, detach, refuse, stop, tell, tell_behind, tell_feature, tell_status};
 use crate::responses;
 use crate::session::{Session, SessionEnd};
 use crate::states::{Phase, Position};
 use crate::writes::accept;
-use dp_breakpoint_commands::{BreakpointError, answer_breakpoints};
+use dp_breakpoint_commands::{BreakpointError, Wishes, answer_breakpoints};
 use dp_command::{
     Addressee, BreakpointRequest, CommandError, Continuation, Finish, Line, LookRequest, Request,
     SessionRequest, Stream, StreamMode, WriteRequest,
 };
-use dp_features::Setting;
+use dp_features::{Features, Setting};
 use dp_packet::ErrorCode;
 use dp_step::Steps;
 use dp_value::Memory;
 use dp_view_commands::{ViewError, view_response};
 use std::alloc::Global;
 use std::sync::ledger::Ledger;
+
+/// What the features say of breakpoints.
+fn wishes(features: &Features) -> Wishes
+    ensures { result ≡ wishes_of features.now }
+{
+    Wishes {
+        resolve: features.resolves(),
+        notify: features.notifies(),
+    }
+}
 
 impl<'a> Session<'a> {
     ghost use Rattle.dp_engine.specs.Answers as spec;
@@ -132,8 +143,17 @@ impl<'a> Session<'a> {
             return Err(Memory);
         };
         let file = program.file();
-        match answer_breakpoints(alloc, self.bundle, file, to, request, &mut self.breaks) {
-            Ok(response) => tell(alloc, response),
+        let wishes = wishes(&self.features);
+        match answer_breakpoints(
+            alloc,
+            self.bundle,
+            file,
+            to,
+            request,
+            &mut self.breaks,
+            wishes,
+        ) {
+            Ok(answered) => tell_behind(alloc, answered),
             Err(BreakpointError::Code(code)) => self.refuse(alloc, to, code),
             Err(BreakpointError::Memory) => Err(Memory),
         }

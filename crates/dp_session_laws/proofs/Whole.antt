@@ -13,6 +13,7 @@ use Rattle.dp_breakpoint_commands.specs.Commands.{breakpoint_response}
 use Rattle.dp_command.specs.declared.command.BreakpointAction.TheVariants.{Get, Remove}
 use Rattle.dp_packet.specs.declared.error_codes.ErrorCode.{ErrorCode}
 use Rattle.dp_packet.specs.declared.error_codes.ErrorCode.TheVariants.{UnimplementedCommand}
+use Rattle.dp_packet.specs.declared.packet.Notify.{Notify}
 use Rattle.dp_packet.specs.declared.packet.Response.{Response}
 use Rattle.dp_view_commands.specs.Views.{view_response}
 use Rattle.dp_command.specs.declared.command.Continuation.{Continuation}
@@ -38,8 +39,8 @@ use Rattle.dp_command.proofs.Decoded.{back_is, front_is}
 use Rattle.dp_command.proofs.LineLaws.{line_found}
 use Rattle.dp_command.proofs.Short.{values_short}
 use Rattle.dp_features.specs.declared.feature.Feature.{Feature}
-use Rattle.dp_features.specs.declared.feature.Feature.TheVariants.{Encoding, MultipleSessions, MaxChildren, MaxData, MaxDepth, ShowHidden, NotifyOk}
-use Rattle.dp_features.specs.Features.{Features, feature_named, number_in, number_of, setting_named, value_of, with_number}
+use Rattle.dp_features.specs.declared.feature.Feature.TheVariants.{Encoding, MultipleSessions, MaxChildren, MaxData, MaxDepth, ShowHidden, NotifyOk, ResolvedBreakpoints}
+use Rattle.dp_features.specs.Features.{Features, feature_named, number_in, number_of, setting_named, value_of, with_number, resolves}
 use Rattle.dp_meaning.specs.declared.writes.Write.{Write as ProgramWrite}
 use Rattle.dp_packet.specs.Parts.{Text, flag}
 use Rattle.dp_packet.specs.declared.packet.Packet.TheVariants as packet
@@ -56,7 +57,7 @@ use Rattle.dp_engine.specs.declared.states.Phase.{Phase}
 use Rattle.dp_engine.specs.declared.states.Phase.TheVariants.{Starting, Break, Stopping}
 use Rattle.dp_engine.specs.declared.states.Reason.{Reason}
 use Rattle.dp_engine.specs.declared.states.Reason.TheVariants as reason
-use Rattle.dp_engine.specs.Answers.{Turn, answer, command_in, continued, feature_answer, gone_on, id_in, in_packet, kept_if, moved, performed, response_in, session_done, set_by, state_response, turn, turn_by_command, turn_of}
+use Rattle.dp_engine.specs.Answers.{Turn, answer, command_in, continued, feature_answer, gone_on, id_in, in_packet, kept_if, moved, news, performed, response_in, session_done, set_by, state_response, turn, turn_by_command, turn_of}
 use Rattle.dp_engine.specs.Refusals.{refusal_of_line}
 use Rattle.dp_engine.specs.Responses.{init_text, main_name, response, response_text}
 use Rattle.dp_engine.specs.Served.{alone, answers}
@@ -124,6 +125,7 @@ record AreSmall (features : Features) : Type 0 where
   max_depth : features.max_depth ≤ 1048576
   show_hidden : features.show_hidden ≤ 1048576
   notify_ok : features.notify_ok ≤ 1048576
+  resolved_breakpoints : features.resolved_breakpoints ≤ 1048576
 
 with_small : (feature : Feature) (n : ℕ) (f : Features) → n ≤ 1048576 → AreSmall f → AreSmall (with_number feature n f)
 with_small MultipleSessions n f p h =
@@ -134,6 +136,7 @@ with_small MultipleSessions n f p h =
       max_depth = h.max_depth;
       show_hidden = h.show_hidden;
       notify_ok = h.notify_ok;
+      resolved_breakpoints = h.resolved_breakpoints;
     }
 with_small MaxChildren n f p h =
     record {
@@ -143,6 +146,7 @@ with_small MaxChildren n f p h =
       max_depth = h.max_depth;
       show_hidden = h.show_hidden;
       notify_ok = h.notify_ok;
+      resolved_breakpoints = h.resolved_breakpoints;
     }
 with_small MaxData n f p h =
     record {
@@ -153,6 +157,7 @@ with_small MaxData n f p h =
           h.max_depth;
       show_hidden = h.show_hidden;
       notify_ok = h.notify_ok;
+      resolved_breakpoints = h.resolved_breakpoints;
     }
 with_small MaxDepth n f p h =
     record {
@@ -163,6 +168,7 @@ with_small MaxDepth n f p h =
           p;
       show_hidden = h.show_hidden;
       notify_ok = h.notify_ok;
+      resolved_breakpoints = h.resolved_breakpoints;
     }
 with_small ShowHidden n f p h =
     record {
@@ -173,6 +179,7 @@ with_small ShowHidden n f p h =
           h.max_depth;
       show_hidden = p;
       notify_ok = h.notify_ok;
+      resolved_breakpoints = h.resolved_breakpoints;
     }
 with_small NotifyOk n f p h =
     record {
@@ -183,6 +190,18 @@ with_small NotifyOk n f p h =
           h.max_depth;
       show_hidden = h.show_hidden;
       notify_ok = p;
+      resolved_breakpoints = h.resolved_breakpoints;
+    }
+with_small ResolvedBreakpoints n f p h =
+    record {
+      multiple_sessions = h.multiple_sessions;
+      max_children = h.max_children;
+      max_data = h.max_data;
+      max_depth =
+          h.max_depth;
+      show_hidden = h.show_hidden;
+      notify_ok = h.notify_ok;
+      resolved_breakpoints = p;
     }
 with_small feature n f p h = h
 
@@ -221,6 +240,7 @@ number_small MaxData value = in_range_small value 0 1048576 (omega arith)
 number_small MaxDepth value = in_range_small value 0 32 (omega arith)
 number_small ShowHidden value = in_range_small value 0 1 (omega arith)
 number_small NotifyOk value = in_range_small value 0 1 (omega arith)
+number_small ResolvedBreakpoints value = in_range_small value 0 1 (omega arith)
 number_small feature value = tt
 
 set_small : (features : Features) (name value : List ℕ) → AreSmall features
@@ -247,6 +267,7 @@ value_short features MaxData h = digits_short features.max_data h.max_data
 value_short features MaxDepth h = digits_short features.max_depth h.max_depth
 value_short features ShowHidden h = digits_short features.show_hidden h.show_hidden
 value_short features NotifyOk h = digits_short features.notify_ok h.notify_ok
+value_short features ResolvedBreakpoints h = digits_short features.resolved_breakpoints h.resolved_breakpoints
 value_short features feature h = omega arith
 
 told_short : (features : Features) (feature : Option Feature) → AreSmall features
@@ -274,8 +295,9 @@ reason_short reason.Aborted = omega arith
 record IsUsual (state : State) : Type 0 where
   small : AreSmall state.features
 
--- the turn sends a text of a packet, and leaves the session as it is in that
+-- the turn sends texts of packets, and leaves the session as it is in that
 record IsGood (t : Turn) : Type 0 where
+  news : AllByRecursion IsPacketText t.before
   fits : Fits t.response
   next : IsUsual t.next
 
@@ -292,9 +314,9 @@ module _ (command id : Text) (p : length command ≤ 64) (q : length id ≤ 64) 
       (reason_short s.reason)
 
   continued_good : (mode : Continuation) (phase : Phase) → IsGood (continued command id mode phase state)
-  continued_good mode Starting = record { fits = tells (gone_on mode state); next = gone_usual mode }
-  continued_good mode Break = record { fits = tells (gone_on mode state); next = gone_usual mode }
-  continued_good mode Stopping = record { fits = status_fits command id p q _ _ (omega arith) (omega arith); next = h }
+  continued_good mode Starting = record { news = tt; fits = tells (gone_on mode state); next = gone_usual mode }
+  continued_good mode Break = record { news = tt; fits = tells (gone_on mode state); next = gone_usual mode }
+  continued_good mode Stopping = record { news = tt; fits = status_fits command id p q _ _ (omega arith) (omega arith); next = h }
 
   told_good : (name : Text) → length name ≤ 1048576 → Fits (feature_answer command id name state)
   told_good name few =
@@ -303,24 +325,25 @@ module _ (command id : Text) (p : length command ≤ 64) (q : length id ≤ 64) 
       (told_short state.features (feature_named name) h.small)
 
   session_good : (r : SessionRequest) → AreShortNames r → IsGood (session_done command id r state)
-  session_good request.Status few = record { fits = tells state; next = h }
-  session_good (request.FeatureGet name) few = record { fits = told_good name few; next = h }
+  session_good request.Status few = record { news = tt; fits = tells state; next = h }
+  session_good (request.FeatureGet name) few = record { news = tt; fits = told_good name few; next = h }
   session_good (request.FeatureSet name value) few = record {
+    news = tt;
     fits = set_fits command id p q name few;
     next = record { small = set_small state.features name value h.small };
   }
   session_good (request.Continue mode) few = continued_good mode state.phase
   session_good (request.Finish Stop) few =
-      record { fits = status_fits command id p q _ _ (omega arith) (omega arith); next = h }
+      record { news = tt; fits = status_fits command id p q _ _ (omega arith) (omega arith); next = h }
   session_good (request.Finish Detach) few =
-      record { fits = status_fits command id p q _ _ (omega arith) (omega arith); next = h }
+      record { news = tt; fits = status_fits command id p q _ _ (omega arith) (omega arith); next = h }
   session_good (request.Redirect Stdout mode) few =
-      record { fits = success_fits command id p q true; next = record { small = h.small } }
-  session_good (request.Redirect Stderr mode) few = record { fits = success_fits command id p q false; next = h }
+      record { news = tt; fits = success_fits command id p q true; next = record { small = h.small } }
+  session_good (request.Redirect Stderr mode) few = record { news = tt; fits = success_fits command id p q false; next = h }
 
   -- a response to a breakpoint command
   breakpoint_known : (r : BreakpointRequest)
-      → HasMessage (packet.Response (breakpoint_response state.bundle command id state.breaks r))
+      → HasMessage (packet.Response (breakpoint_response (resolves state.features) state.bundle command id state.breaks r))
   breakpoint_known (asked.Set set) = refl
   breakpoint_known (asked.One Get number) = refl
   breakpoint_known (asked.One Remove number) = refl
@@ -334,6 +357,18 @@ module _ (command id : Text) (p : length command ≤ 64) (q : length id ≤ 64) 
         → Fits (if b then r else response command id [] body.Nothing)
     by true e = record { known = known; short = leb-true (length (text (packet.Response r))) packet_limit e }
     by false e = record { known = refl; short = omega (arith, bare_response_short command id []) }
+
+  news_fit : (n : Option Notify) → AllByRecursion IsPacketText (news n)
+  news_fit None = tt
+  news_fit (Some n) = by (nat_le (length (text (packet.Notify n))) packet_limit) refl where
+    by : (b : Bool) → nat_le (length (text (packet.Notify n))) packet_limit ≡ b
+        → AllByRecursion IsPacketText (if b then text (packet.Notify n) ∷ [] else [])
+    by true e =
+        let short = leb-true (length (text (packet.Notify n))) packet_limit e in (
+          record { some_byte = packet_some (packet.Notify n); fits = short },
+          tt,
+        )
+    by false e = tt
 
   shown_fits : (r : LookRequest) → (made : Result Response ErrorCode)
       → view_response state.bundle (here state) state.features (program_of state) command id r ≡ made
@@ -363,9 +398,10 @@ module _ (command id : Text) (p : length command ≤ 64) (q : length id ≤ 64) 
   done_good : (r : Request) → IsShortRequest r → IsGood (performed command id r state)
   done_good (Session r) few = session_good r few
   done_good (Breakpoints r) few =
-      record { fits = in_packet_fits _ (breakpoint_known r); next = record { small = h.small } }
-  done_good (Look r) few = record { fits = shown_fits r _ refl; next = h }
+      record { news = news_fit _; fits = in_packet_fits _ (breakpoint_known r); next = record { small = h.small } }
+  done_good (Look r) few = record { news = tt; fits = shown_fits r _ refl; next = h }
   done_good (Write r) few = record {
+    news = tt;
     fits = written_fits r _ refl;
     next =
         kept_usual (write_response state.bundle state.features (program_of state) command id r)
@@ -378,6 +414,7 @@ module _ (state : State) (h : IsUsual state) where
       → IsGood (turn_by_command line.name (id_of line) (option_map (command_as line) name) state)
   asked_good line few None short =
       record {
+        news = tt;
         fits = fault_fits line.name (id_of line) few.name (line_id_short (Some line)) UnimplementedCommand;
         next = h;
       }
@@ -388,6 +425,7 @@ module _ (state : State) (h : IsUsual state) where
   turn_good : (line : Option Line) → IsShortLine line → (code : Option ErrorCode) → refusal_of_line state line ≡ code
       → IsGood (turn_of line code state)
   turn_good line few (Some code) e = record {
+    news = tt;
     fits =
         fault_fits (command_in line) (id_in line) (name_short line few) (line_id_short line) code;
     next = h;
@@ -418,8 +456,8 @@ answer_sends state bytes h spoken =
     let good = is_good state h bytes spoken in
     record {
       texts =
-          sent_texts state.stdout (written_between state (turn state bytes).next)
-          (response_text (turn state bytes).response) (fits_packet (turn state bytes) good.fits);
+          sent_texts state.stdout (written_between state (turn state bytes).next) (turn state bytes).before
+          (response_text (turn state bytes).response) good.news (fits_packet (turn state bytes) good.fits);
       usual = good.next;
     }
 
@@ -454,6 +492,7 @@ opening_usual bundle bound = record {
             arith;
         show_hidden = omega arith;
         notify_ok = omega arith;
+        resolved_breakpoints = omega arith;
       };
 }
 

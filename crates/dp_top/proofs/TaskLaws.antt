@@ -1,5 +1,5 @@
 -- The answers of the call: what the words ask for, why it failed, and what is told of it.
-use Rattle.std.proofs.Common.{◌≡◌, ◌⊎◌, ℕ, ◌<◌, ◌≤◌, List, Option, None, Some, Ok, Err, refl, sym, ap, ◌∙◌, subst, arith, inl, inr, ⊎_elim, codes, [], ◌∷◌, zero, suc, ◌+◌, false}
+use Rattle.std.proofs.Common.{◌≡◌, ◌⊎◌, ℕ, ◌<◌, ◌≤◌, List, Option, None, Some, Ok, Err, refl, sym, ap, ◌∙◌, subst, arith, inl, inr, ⊎_elim, codes, [], ◌∷◌, ◌++◌, zero, suc, ◌+◌, false}
 use Rattle.std.specs.Prelude.{if◌then◌else◌, option_and_then}
 use Rattle.std.specs.Option.{option_map, option_map_or}
 use Rattle.std.specs.Str.{bytes_eq}
@@ -314,10 +314,11 @@ module _ (failed : Failure) (name key : List ℕ) (ask : Invocation) (old new : 
         (changed old.err new.err)
 
     cut_by : (e : ServeEnd) → h.served.end ≡ e → (cut : IsCutShort)
-        → CutBy e h.served.outcome h.is.program ask.bound cut.taken (changed old.out new.out) (changed old.err new.err)
+        → CutBy e h.served.outcome h.is.program ask.bound cut.done (cut.done ++ cut.last) (changed old.out new.out)
+        (changed old.err new.err)
     cut_by e is cut =
-        subst (λ (e : ServeEnd). CutBy e h.served.outcome h.is.program ask.bound cut.taken (changed old.out new.out)
-        (changed old.err new.err)) is cut.by
+        subst (λ (e : ServeEnd). CutBy e h.served.outcome h.is.program ask.bound cut.done (cut.done ++ cut.last)
+        (changed old.out new.out) (changed old.err new.err)) is cut.by
 
     write_fault : h.served.end ≡ serve.WriteFault → IsCutShort → Rose old.out.faults new.out.faults
     write_fault is cut = (cut_by serve.WriteFault is cut).0
@@ -409,10 +410,11 @@ module _ (failed : Failure) (name : List ℕ) (address : Address) (key : List �
     IsLinkCut = IsCut h.served h.is.program ask.bound key h.is.source h.is.sink (changed old.out new.out)
 
     link_cut_by : (e : ServeEnd) → h.served.end ≡ e → (cut : IsLinkCut)
-        → CutBy e h.served.outcome h.is.program ask.bound cut.taken h.is.sink (changed old.out new.out)
+        → CutBy e h.served.outcome h.is.program ask.bound cut.done (cut.done ++ cut.last) h.is.sink
+        (changed old.out new.out)
     link_cut_by e is cut =
-        subst (λ (e : ServeEnd). CutBy e h.served.outcome h.is.program ask.bound cut.taken h.is.sink
-        (changed old.out new.out)) is cut.by
+        subst (λ (e : ServeEnd). CutBy e h.served.outcome h.is.program ask.bound cut.done (cut.done ++ cut.last)
+        h.is.sink (changed old.out new.out)) is cut.by
 
     sink_fault : h.served.end ≡ serve.WriteFault → IsLinkCut → ⊥
     sink_fault is cut =

@@ -32,8 +32,8 @@ reason_at (Stopping end) = reason_of end
 
 -- what a session knows
 abbrev pub known : Bundle → ℕ → List NumberedWrite → ℕ → Position → Features → StreamMode → Table
-    → State
-known bundle bound writes moment position features stdout breaks = record {
+    → Bool → State
+known bundle bound writes moment position features stdout breaks failed = record {
   bundle = bundle;
   bound = bound;
   writes = writes;
@@ -43,6 +43,7 @@ known bundle bound writes moment position features stdout breaks = record {
   features = features;
   stdout = stdout;
   breaks = breaks;
+  failed = failed;
 }
 
 -- how it ends where it is stopped

@@ -1,5 +1,6 @@
 -- A turn as the code makes it.
-use Rattle.std.specs.Prelude.{◌≡◌, ℕ, true, List, [], ◌∷◌, ◌++◌, Option, Some, None, Result, Ok, Err}
+use Rattle.std.specs.Prelude.{◌≡◌, ℕ, true, List, [], ◌∷◌, ◌++◌, Option, Some, None, option_to_list, Result, Ok, Err}
+use Rattle.std.specs.List.{AllByRecursion}
 use Rattle.dp_command.specs.declared.command.Command.{Command}
 use Rattle.dp_command.specs.declared.errors.CommandError.{CommandError}
 use Rattle.dp_command.specs.declared.errors.CommandError.TheVariants.{Code, Memory}
@@ -26,21 +27,28 @@ use Rattle.dp_engine.specs.Responses.{response_text}
 use Rattle.dp_engine.specs.Session.{State}
 use Rattle.dp_engine.specs.States.{allows}
 
--- a turn that tells this response, and ends the session so
-pub record Responds (response : Response) (ended : Option SessionEnd) (made : Made) : Type 0 where
+-- a turn that tells this response behind these packets, and ends the session so
+pub record Tells (before : List Text) (response : Response) (ended : Option SessionEnd) (made : Made)
+    : Type 0 where
+  pub before_it : option_to_list made.before ≡ before
   pub text : made.text ≡ response_text response
   pub ends : made.ended ≡ ended
   pub is_text : IsPacketText made.text
+  pub are_texts : AllByRecursion IsPacketText (option_to_list made.before)
+
+-- one that tells it alone
+abbrev pub Responds : Response → Option SessionEnd → Made → Type 0
+Responds response ended made = Tells [] response ended made
 
 -- a turn that is the one asked for, after which the session knows this
 pub record IsTurn (asked : Turn) (state : State) (made : Made) : Type 0 where
-  pub responds : Responds asked.response asked.ended made
+  pub responds : Tells asked.before asked.response asked.ended made
   pub next : state ≡ asked.next
 
 -- what is sent of a turn in which this was written
 pub record IsSent (mode : StreamMode) (written : List ℕ) (made : Made) (sent : Answer SessionEnd)
     : Type 0 where
-  pub packets : sent.packets ≡ to_ide mode written ++ made.text ∷ []
+  pub packets : sent.packets ≡ to_ide mode written ++ option_to_list made.before ++ made.text ∷ []
   pub program : sent.program ≡ to_program mode written
   pub ended : sent.ended ≡ made.ended
 

@@ -9,7 +9,7 @@ returns-in-Ok-clause-serves g c = λ key begun.
     c.args.source.now c.converse-over.new.source c.args.sink.now c.converse-over.new.sink c.args.out.now
     c.converse-over.new.out c.close.new.out
     c.in-Ok.over c.close.result c.requires.opening begun (rw c.as_slice.ensures at rw c.in-Ok.is at
-    c.converse-over.ensures.ok) (rw c.counted.view_is at c.close.ensures.closes) c.converse-over.ensures.out_later)
+    c.converse-over.ensures.ok) (rw c.metered.view_is at c.close.ensures.closes) c.converse-over.ensures.out_later)
 
 pub returns-clause-serves : goal.returns-clause-serves
 returns-clause-serves g c = λ key begun.
@@ -20,5 +20,5 @@ returns-clause-serves g c = λ key begun.
     c.converse-over.new.out c.close_cut.new.out
     c.in-Err.fault c.close_cut.result c.requires.opening begun
     (rw c.as_slice.ensures at rw c.in-Err.is at c.converse-over.ensures.cut)
-    (rw c.counted.view_is at c.close_cut.ensures.closes) c.converse-over.ensures.out_later
+    (rw c.metered.view_is at c.close_cut.ensures.closes) c.converse-over.ensures.out_later
     c.close_cut.ensures.out_later)

@@ -7,12 +7,12 @@ pub returns-else-self-clause-state : goal.returns-else-self-clause-state
 returns-else-self-clause-state c =
     let s = c.self.inside in
     rw (← c.self.view_is) (c.state.ensures
-    ∙ program_is s.bundle.now s.bound s.writes.items s.moment s.position s.features s.stdout s.breaks s.machine
-    s.failed c.if-self.false c.self.invariant.0)
+    ∙ program_is s.bundle.now s.bound s.writes.items s.moment s.position s.features s.stdout
+    s.breaks s.failed s.machine c.if-self.false c.self.invariant.0)
 
 pub returns-else-self-clause-of : goal.returns-else-self-clause-of
 returns-else-self-clause-of c =
     let s = c.self.inside in
     rw (← c.self.view_is) (subst (IsOf s.bundle.now) (sym c.state.ensures)
-    (program_can s.bundle.now s.bound s.writes.items s.moment s.position s.features s.stdout s.breaks s.machine s.failed
+    (program_can s.bundle.now s.bound s.writes.items s.moment s.position s.features s.stdout s.breaks s.failed s.machine
     c.if-self.false (has_files s.bundle.now c.self.invariant.2) c.self.invariant.0))

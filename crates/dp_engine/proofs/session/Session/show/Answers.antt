@@ -12,7 +12,7 @@ tell-requires c = let sent = c.in-Ok.ensures.is_sent in fits_known c.in-Ok.respo
 pub returns-in-Ok : goal.returns-in-Ok
 returns-in-Ok c =
     let s = c.self.inside in
-    let state = known s.bundle.now s.bound s.writes.items s.moment s.position s.features s.stdout s.breaks in
+    let state = known s.bundle.now s.bound s.writes.items s.moment s.position s.features s.stdout s.breaks s.failed in
     let command = c.args.to.now.command in
     let id = c.args.to.now.id in
     let is = view_is state c.in_ok-program.program.now c.file.result command id c.args.request.now
@@ -23,7 +23,7 @@ returns-in-Ok c =
 pub returns-in-Err-Code : goal.returns-in-Err-Code
 returns-in-Err-Code c =
     let s = c.self.inside in
-    let state = known s.bundle.now s.bound s.writes.items s.moment s.position s.features s.stdout s.breaks in
+    let state = known s.bundle.now s.bound s.writes.items s.moment s.position s.features s.stdout s.breaks s.failed in
     let command = c.args.to.now.command in
     let id = c.args.to.now.id in
     let request = c.args.request.now in

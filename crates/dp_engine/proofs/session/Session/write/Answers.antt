@@ -32,10 +32,10 @@ invariant_of-self c =
 pub returns-in-Ok-clause-turn : goal.returns-in-Ok-clause-turn
 returns-in-Ok-clause-turn c =
     let s = c.self.inside in
-    let same = program_is s.bundle.now s.bound s.writes.items s.moment s.position s.features s.stdout s.breaks s.machine
-    s.failed c.if-self.false c.self.invariant.0 in
+    let same = program_is s.bundle.now s.bound s.writes.items s.moment s.position s.features s.stdout
+    s.breaks s.failed s.machine c.if-self.false c.self.invariant.0 in
     rw (← c.self.view_is) (write_turn s.bundle.now s.bound s.writes.items s.moment s.position s.features s.stdout
-    s.breaks s.machine c.accept-made.new.program c.accept-made.new.writes.items
+    s.breaks s.failed s.machine c.accept-made.new.program c.accept-made.new.writes.items
     c.args.to.now.command c.args.to.now.id c.args.request.now c.in-Ok.response c.tell.result same
     (subst (λ (p : State). IsKeptWrite s.bundle.now s.features p c.accept-made.new.program s.writes.items
     c.accept-made.new.writes.items s.moment c.args.to.now.command c.args.to.now.id
@@ -51,18 +51,21 @@ returns-in-Err-Code-clause-turn c =
     let code = c.in-Err-Code.code in
     let told : write_response s.bundle.now s.features s.machine.state command id request ≡ Err code = search rules in
     let same : kept ≡ s.writes.items = search rules in
-    let is = program_is s.bundle.now s.bound s.writes.items s.moment s.position s.features s.stdout s.breaks s.machine
-    s.failed c.if-self.false c.self.invariant.0 in
+    let is = program_is s.bundle.now s.bound s.writes.items s.moment s.position s.features s.stdout
+    s.breaks s.failed s.machine c.if-self.false c.self.invariant.0 in
     rw (← c.self.view_is) (own_refused (known s.bundle.now s.bound s.writes.items s.moment s.position s.features
-    s.stdout s.breaks)
-    (known s.bundle.now s.bound kept s.moment s.position s.features s.stdout s.breaks) command id (Write request) code
+    s.stdout s.breaks s.failed)
+    (known s.bundle.now s.bound kept s.moment s.position s.features s.stdout
+    s.breaks s.failed) command id (Write request) code
     c.refuse.result
-    (write_is_refused s.bundle.now s.bound s.writes.items s.moment s.position s.features s.stdout s.breaks s.machine
+    (write_is_refused s.bundle.now s.bound s.writes.items s.moment s.position s.features s.stdout
+    s.breaks s.failed s.machine
     command id request code is told)
-    (ap (λ l. known s.bundle.now s.bound l s.moment s.position s.features s.stdout s.breaks) same) c.refuse.ensures)
+    (ap (λ l. known s.bundle.now s.bound l s.moment s.position s.features s.stdout
+    s.breaks s.failed) same) c.refuse.ensures)
 
 pub returns-in-Ok-clause-stays : goal.returns-in-Ok-clause-stays
 returns-in-Ok-clause-stays c =
     let s = c.self.inside in
     rw (← c.self.view_is) (write_stays s.bundle.now s.bound s.writes.items s.moment s.position s.features s.stdout
-    s.breaks s.machine c.accept-made.new.writes.items (ap (λ k. k.phase) c.self.view_is ∙ c.requires))
+    s.breaks s.failed s.machine c.accept-made.new.writes.items (ap (λ k. k.phase) c.self.view_is ∙ c.requires))
