@@ -7,4 +7,12 @@ pub mod LaneRuns
 pub mod Engines
 pub mod Asked
 pub mod Registrations
+pub mod Gates
+pub mod Tallies
+pub mod Workers
+pub mod Tasks
+pub mod Twins
+pub mod Relays
+pub mod Bounds
+pub mod Summaries
 pub mod inner
