@@ -2,8 +2,12 @@
 //! apart.
 #![tactic(auto)]
 
+mod faults;
 mod sessions;
+#[cfg(test)]
+mod tables;
 #[cfg(test)]
 mod tests;
 
+pub use faults::{Call, Relayed, relayed_with};
 pub use sessions::{Served, served_in_memory};
