@@ -1,6 +1,7 @@
 pub mod Truth
 pub mod Spellings
 pub mod Answers
+pub mod LevelAnswers
 pub mod Loops
 pub mod Turns
 pub mod Verdicts

@@ -12,7 +12,8 @@ use Rattle.dp_markup.specs.Rules.{Rule, Joined, ◌or◌, Made, One, passing, Ma
 use Rattle.dp_markup.specs.Classes.{is_name_start, is_plain_in_text}
 use Rattle.dp_markup.specs.Grammar.{Text, Reference, Start, UpTo, CData, ContentPiece, EndTag, BehindStart, Opened, IsOpened, with_bytes, with_child, nodes_of, no_content, no_attribute, start_tag, element}
 use Rattle.dp_markup.specs.inner.Readers.{same, reference, start, end_tag, spaced_mark, cdata, bracket, content_byte, content_step, inside, behind_start, element_in, no_level, opened}
-use Rattle.dp_grammar.proofs.Answers.{one_answers, gives_answers, equal_answers, refused_here, under_answers, too_deep_answers}
+use Rattle.dp_grammar.proofs.Answers.{one_answers, gives_answers, equal_answers, refused_here, too_deep_answers}
+use Rattle.dp_grammar.proofs.LevelAnswers.{under_answers}
 use Rattle.dp_markup.proofs.Answers.{Rules, Anything, JoinedAt, EitherAt, ClosedAt, StepAt, Answers, StartsIn, joined_starts, begun, same_level, give, given}
 use Rattle.dp_markup.proofs.Loops.{step_stop, closed_answers}
 use Rattle.dp_markup.proofs.Basics.{IsReader, Can, mark_apart, passing_starts, before, behind_word, marked, behind_mark, word_starts, made_starts, joined_reads, made_reads, choose_reads, mark_then, takes_byte}

@@ -5,6 +5,7 @@ use Rattle.dp_lexer.specs.declared.token.Token.{Token}
 use Rattle.dp_grammar.specs.declared.refusal.Refusal.TheVariants.{Unexpected}
 use Rattle.dp_grammar.specs.Rules.{head as first}
 use Rattle.dp_grammar.proofs.Answers as all
+use Rattle.dp_grammar.proofs.LevelAnswers as levels
 use Rattle.dp_token_rules.specs.declared.terminal.Terminal.{Terminal}
 use Rattle.dp_token_rules.specs.declared.terminal.Terminal.TheVariants as terminal
 use Rattle.dp_token_rules.specs.Terminals.{terminal_of, next_terminal, same_terminal, is, head}
@@ -362,18 +363,18 @@ pub below_answers : {L A : Type 0} (Above : L → L → Type 0) (rule under : Ru
     → level ≡ raise lower
     → ((k m : L) → raise k ≡ raise m → k ≡ m)
     → (o : Outcome A) → Answers Above rule stop lower ts o → Answers Above under stop level ts o
-below_answers Above rule under stop = all.below_answers Above rule under (ends stop)
+below_answers Above rule under stop = levels.below_answers Above rule under (ends stop)
 
 pub under_answers : {A : Type 0} (rule under : Rules ℕ A) (stop : Stop A) (level : ℕ) (ts : List Token)
     → ((text : List Token) (a : A) → under 0 text a → ⊥)
     → ((k : ℕ) (text : List Token) (a : A) → under (suc k) text a → rule k text a)
     → ((k : ℕ) (text : List Token) (a : A) → rule k text a → under (suc k) text a)
     → (o : Outcome A) → Answers (λ l m. l ≤ m) rule stop level ts o → Answers (λ l m. l ≤ m) under stop (suc level) ts o
-under_answers rule under stop = all.under_answers rule under (ends stop)
+under_answers rule under stop = levels.under_answers rule under (ends stop)
 
 pub within_answers : {K L A : Type 0} (AboveK : K → K → Type 0) (Above : L → L → Type 0) (rule : Rules K A)
     (stop : Stop A) (level : L) (ts : List Token) (part : L → K)
     → ((m : L) → Above level m → AboveK (part level) (part m))
     → ((k : K) → AboveK (part level) k → (m : L) × Above level m × (part m ≡ k))
     → (o : Outcome A) → Answers AboveK rule stop (part level) ts o → Answers Above (λ l. rule (part l)) stop level ts o
-within_answers AboveK Above rule stop = all.within_answers AboveK Above rule (ends stop)
+within_answers AboveK Above rule stop = levels.within_answers AboveK Above rule (ends stop)
