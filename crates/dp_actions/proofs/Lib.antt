@@ -2,6 +2,8 @@ pub mod Runs
 pub mod AtOnceLaws
 pub mod Tails
 pub mod Layers
+pub mod StatementLayers
+pub mod AfterBodies
 pub mod Texts
 pub mod EntryReads
 pub mod PureParts

@@ -10,5 +10,6 @@ pub mod Bodies
 pub mod Loops
 pub mod Effects
 pub mod Expressions
+pub mod Statements
 pub mod Observed
 pub mod inner

@@ -2,3 +2,4 @@
 pub mod Bases
 pub mod Keyed
 pub mod Missing
+pub mod StatementParts

@@ -23,10 +23,10 @@ use Rattle.dp_actions.specs.Expressions.{expression_run, evaluation, place_run}
 use Rattle.dp_actions.specs.Loops.{entries}
 use Rattle.dp_actions.specs.Run.{Run}
 use Rattle.dp_actions.specs.Setting.{Part}
-use Rattle.dp_meaning.specs.Statements.{KindRun, ArmRun, go_on, sequence, echoes, arms_run, return_run, end_run, kind_layer, arm_layer, statement_layer, statement_run, body_run}
+use Rattle.dp_actions.specs.Statements.{KindRun, ArmRun, go_on, sequence, echoes, arms_run, return_run, end_run, kind_layer, arm_layer, statement_layer, statement_run, body_run}
 use Rattle.dp_actions.specs.Effects.{with_globals, status_of, exit_with, exit_run}
-use Rattle.dp_meaning.specs.inner.Parts.{kind_run}
-use Rattle.dp_meaning.specs.Statements.{arm_run}
+use Rattle.dp_actions.specs.inner.StatementParts.{kind_run}
+use Rattle.dp_actions.specs.Statements.{arm_run}
 use Rattle.dp_actions.specs.Values.{holds}
 use Rattle.dp_meaning.proofs.Always.{Each, each-images, Always, IsKept, Keeps, KeepsPart, Keeps-and_then, Always-if, Always-taken}
 use Rattle.dp_meaning.proofs.AlwaysExpressions.{Keeps-expression, Keeps-evaluations, Keeps-place}

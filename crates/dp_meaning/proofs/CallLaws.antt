@@ -14,11 +14,12 @@ use Rattle.dp_meaning.specs.inner.Drive.{Rules, Evaluates}
 use Rattle.dp_actions.specs.Calls.{call_run, callee}
 use Rattle.dp_actions.specs.Expressions.{evaluations}
 use Rattle.dp_actions.specs.Loops.{do_turns, turns}
-use Rattle.dp_meaning.specs.Programs.{file_run, function_run, left_file, setting_of}
+use Rattle.dp_meaning.specs.Programs.{file_run, function_run, setting_of}
+use Rattle.dp_actions.specs.Bodies.{left_file}
 use Rattle.dp_actions.specs.Bodies.{statements_of}
 use Rattle.dp_actions.specs.Run.{Run, Done, and_then, fatal, taken}
 use Rattle.dp_actions.specs.Setting.{Part}
-use Rattle.dp_meaning.specs.Statements.{body_run, for_turns}
+use Rattle.dp_actions.specs.Statements.{body_run, for_turns}
 
 module _ (bundle : Bundle) (bound depth : ℕ) where
   pub setting-bundle : (setting_of bundle bound depth).bundle ≡ bundle

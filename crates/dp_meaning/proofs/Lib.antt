@@ -11,7 +11,6 @@ pub mod WrittenMoments
 pub mod StopLaws
 pub mod Alone
 pub mod AnswerLaws
-pub mod Layers
 pub mod SizeLaws
 pub mod ListLaws
 pub mod LoopLaws

@@ -1,4 +1,3 @@
-pub mod Statements
 pub mod Programs
 pub mod Writes
 pub mod Trace

@@ -1,38 +1,23 @@
 -- What calls of functions and included files do, and whole programs.
-use Rattle.std.specs.Prelude.{ℕ, zero, suc, pos, List}
+use Rattle.std.specs.Prelude.{ℕ, zero, suc, List}
 use Rattle.dp_tree.specs.declared.tree.Function.{Function}
 use Rattle.dp_tree.specs.declared.bundle.Bundle.{Bundle}
 use Rattle.dp_state.specs.declared.moments.FatalKind.TheVariants.{TooDeep}
-use Rattle.dp_state.specs.declared.moments.MomentKind.TheVariants.{Enter, Leave}
-use Rattle.dp_state.specs.declared.state.State.{State}
+use Rattle.dp_state.specs.declared.moments.MomentKind.TheVariants.{Enter}
 use Rattle.dp_state.specs.Functions.{called, included}
-use Rattle.dp_state.specs.States.{frame_limit, left, line_of, opening}
+use Rattle.dp_state.specs.States.{frame_limit, opening}
 use Rattle.dp_value.specs.declared.value.Value.{Value}
-use Rattle.dp_value.specs.declared.value.Value.TheVariants.{Null, Int}
 use Rattle.dp_actions.specs.declared.signal.Signal.{Signal}
-use Rattle.dp_actions.specs.Bodies.{returned, statements_of}
-use Rattle.dp_actions.specs.Run.{Run, Done, At, fatal, taken, ◌>>=◌}
+use Rattle.dp_actions.specs.Bodies.{leaving, left_file, statements_of}
+use Rattle.dp_actions.specs.Run.{Run, At, fatal, taken, ◌>>=◌}
 use Rattle.dp_actions.specs.Setting.{Setting, Part}
-use Rattle.dp_meaning.specs.Statements.{body_run}
-
--- what is left of a call that has left: its frame goes, and it gives what its body gave, or null
-abbrev pub left_call : Signal → State → Run Value
-left_call g s = Done (returned Null g) (left s)
-
--- a call whose body is done leaves, on the line of its last moment, before its frame goes
-abbrev pub leaving : Signal → State → Run Value
-leaving g s = At Leave (line_of s) s (left_call g)
+use Rattle.dp_actions.specs.Statements.{body_run}
 
 -- A call: its parameters are set, then it enters, on the line of `function`.
 abbrev pub function_run : ℕ → Function → List Value → Part Value
 function_run file f values setting s =
     taken (called file f values s) s
     >>= λ _ t. At Enter f.line t (λ u. body_run f.body setting u >>= leaving)
-
--- what is left of an included file that is done: its frame goes, and it gives what its body gave,
--- or 1
-abbrev pub left_file : Signal → State → Run Value
-left_file g s = Done (returned (Int (pos 1)) g) (left s)
 
 -- an included file: its functions are declared, then it runs
 abbrev pub file_run : ℕ → Part Value

@@ -4,5 +4,4 @@ pub mod WriteAnswers
 pub mod Drive
 pub mod Evaluation
 pub mod Sizes
-pub mod Parts
 pub mod MomentlessParts

@@ -19,7 +19,8 @@ impl<O: Outside> Evaluator<'_, O> {
     ghost use Rattle.dp_meaning.specs.inner.Drive.{Evaluates};
     ghost use Rattle.dp_meaning.specs.inner.Evaluation.{goes_by};
     ghost use Rattle.dp_actions.specs.Expressions.{evaluations};
-    ghost use Rattle.dp_meaning.specs.Programs.{file_run, function_run, leaving};
+    ghost use Rattle.dp_meaning.specs.Programs.{file_run, function_run};
+    ghost use Rattle.dp_actions.specs.Bodies.{leaving};
     ghost use Rattle.dp_meaning.specs.inner.Sizes.{body_size, frame_size};
 
     /// A call of what a name calls.

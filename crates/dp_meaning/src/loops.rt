@@ -15,7 +15,7 @@ impl<O: Outside> Evaluator<'_, O> {
     ghost use Rattle.dp_meaning.specs.inner.Evaluation.{for_part, foreach_part, goes_by};
     ghost use Rattle.dp_actions.specs.Expressions.{evaluation, evaluations, expression_run};
     ghost use Rattle.dp_actions.specs.Loops.{do_turns, each_run, entries, turns};
-    ghost use Rattle.dp_meaning.specs.Statements.{statement_run};
+    ghost use Rattle.dp_actions.specs.Statements.{statement_run};
 
     /// The turns of a `while` or a `for`, at most so many.
     #[cycle(evaluate)]

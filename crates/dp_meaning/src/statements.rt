@@ -20,8 +20,8 @@ impl<O: Outside> Evaluator<'_, O> {
     ghost use Rattle.dp_meaning.specs.inner.Evaluation.{goes_by};
     ghost use Rattle.dp_actions.specs.Expressions.{expression_run, place_run};
     ghost use Rattle.dp_actions.specs.Places.{unset_run};
-    ghost use Rattle.dp_meaning.specs.Statements.{arms_run, body_run, echoes, end_run, return_run, statement_run};
-    ghost use Rattle.dp_meaning.specs.Statements.{arm_run};
+    ghost use Rattle.dp_actions.specs.Statements.{arms_run, body_run, echoes, end_run, return_run, statement_run};
+    ghost use Rattle.dp_actions.specs.Statements.{arm_run};
 
     /// Statements, one after another.
     #[cycle(evaluate)]

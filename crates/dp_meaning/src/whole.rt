@@ -23,7 +23,7 @@ impl Whole<'_> {
     ghost use Rattle.std.specs.Prelude.{◌≡◌, drop};
     ghost use Rattle.dp_actions.specs.Expressions.{evaluation, evaluations};
     ghost use Rattle.dp_actions.specs.Loops.{do_turns, each_run, entries, turns};
-    ghost use Rattle.dp_meaning.specs.Statements.{statement_run};
+    ghost use Rattle.dp_actions.specs.Statements.{statement_run};
     ghost use Rattle.dp_meaning.specs.Whole.{RunsWhole};
 
     /// Runs a statement.

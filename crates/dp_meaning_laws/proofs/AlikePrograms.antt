@@ -15,7 +15,7 @@ use Rattle.dp_meaning.specs.Programs.{function_run, file_run, setting_of, progra
 use Rattle.dp_actions.specs.Bodies.{returned, statements_of}
 use Rattle.dp_actions.specs.Run.{Run, Done, and_then, taken}
 use Rattle.dp_actions.specs.Setting.{Setting}
-use Rattle.dp_meaning.specs.Statements.{body_run}
+use Rattle.dp_actions.specs.Statements.{body_run}
 use Rattle.dp_meaning_laws.proofs.Alike.{Alike, AreAlike, Facts, IsFunction, IsKept, Keeps, Alike-and_then, Alike-taken}
 use Rattle.dp_meaning_laws.proofs.Each.{Each, each-at, each-left, each-right}
 use Rattle.dp_meaning_laws.proofs.AlikeCalls.{within-found}

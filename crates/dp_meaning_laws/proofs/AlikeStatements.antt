@@ -29,10 +29,10 @@ use Rattle.dp_actions.specs.Expressions.{expression_run, evaluation, evaluations
 use Rattle.dp_actions.specs.Loops.{do_turns, entries, after_body, turns}
 use Rattle.dp_actions.specs.Run.{Run, Done, Over, At, and_then, taken}
 use Rattle.dp_actions.specs.Setting.{Setting, Part}
-use Rattle.dp_meaning.specs.Statements.{KindRun, ArmRun, go_on, placed, sequence, echoes, arms_run, return_run, end_run, kind_layer, arm_layer, statement_layer, statement_run, body_run}
+use Rattle.dp_actions.specs.Statements.{KindRun, ArmRun, go_on, placed, sequence, echoes, arms_run, return_run, end_run, kind_layer, arm_layer, statement_layer, statement_run, body_run}
 use Rattle.dp_actions.specs.Effects.{with_globals, status_of, exit_with, exit_run}
-use Rattle.dp_meaning.specs.inner.Parts.{kind_run}
-use Rattle.dp_meaning.specs.Statements.{arm_run}
+use Rattle.dp_actions.specs.inner.StatementParts.{kind_run}
+use Rattle.dp_actions.specs.Statements.{arm_run}
 use Rattle.dp_actions.specs.Values.{holds}
 use Rattle.dp_meaning_laws.proofs.Alike.{Alike, AreAlike, Facts, IsKept, Keeps, KeepsPart, Keeps-and_then, Alike-if, Alike-taken}
 use Rattle.dp_meaning_laws.proofs.Each.{Each, each-left, each-right}

@@ -17,7 +17,7 @@ use Rattle.dp_meaning.specs.Programs.{program_run, setting_of}
 use Rattle.dp_actions.specs.Bodies.{statements_of}
 use Rattle.dp_actions.specs.Run.{Run, Done}
 use Rattle.dp_actions.specs.Setting.{Setting}
-use Rattle.dp_meaning.specs.Statements.{body_run, statement_run}
+use Rattle.dp_actions.specs.Statements.{body_run, statement_run}
 use Rattle.dp_meaning.specs.Trace.{program_trace, trace}
 use Rattle.dp_meaning.specs.Writes.{Writes, evaluation_limit, writes_of}
 use Rattle.dp_meaning_laws.proofs.Alike.{Alike, AreAlike}

@@ -15,7 +15,7 @@ use Rattle.dp_actions.specs.declared.signal.Signal.{Signal}
 use Rattle.dp_actions.specs.declared.signal.Signal.TheVariants.{Next}
 use Rattle.dp_meaning.specs.declared.writes.NumberedWrite.{NumberedWrite}
 use Rattle.dp_meaning.specs.Programs.{program_run, setting_of}
-use Rattle.dp_meaning.specs.Statements.{body_run}
+use Rattle.dp_actions.specs.Statements.{body_run}
 use Rattle.dp_meaning.specs.Trace.{Gave, Trace, moment_at, now, outcome, outcome_of, program_trace, trace}
 use Rattle.dp_meaning.specs.Writes.{written, writes_of}
 use Rattle.dp_meaning_laws.specs.Limits.{CanStand}

@@ -8,7 +8,7 @@ use Rattle.dp_meaning.specs.declared.writes.NumberedWrite.{NumberedWrite}
 use Rattle.dp_actions.specs.Bodies.{statements_of}
 use Rattle.dp_actions.specs.Run.{Run, ◌>>=◌}
 use Rattle.dp_actions.specs.Setting.{Setting}
-use Rattle.dp_meaning.specs.Statements.{body_run}
+use Rattle.dp_actions.specs.Statements.{body_run}
 use Rattle.dp_meaning.specs.Trace.{Trace, trace}
 use Rattle.dp_meaning.specs.Writes.{Writes, writes_of}
 

@@ -17,7 +17,7 @@ ghost use Rattle.dp_meaning.specs.declared.writes.WriteAnswer.TheVariants as ans
 ghost use Rattle.dp_actions.specs.Expressions.{evaluation, evaluations};
 ghost use Rattle.dp_actions.specs.Loops.{do_turns, turns};
 ghost use Rattle.dp_meaning.specs.Programs.{setting_of};
-ghost use Rattle.dp_meaning.specs.Statements.{body_run, statement_run};
+ghost use Rattle.dp_actions.specs.Statements.{body_run, statement_run};
 ghost use Rattle.dp_meaning.specs.Trace.{moment_at, now, outcome, program_trace};
 ghost use Rattle.dp_actions.specs.Setting.{Setting};
 ghost use Rattle.dp_meaning.specs.Writes.{answer_in, evaluated, evaluation_limit, one_write, with_place};

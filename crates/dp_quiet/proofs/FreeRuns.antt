@@ -27,9 +27,9 @@ use Rattle.dp_actions.specs.Run.{Run, Done, Over, At, and_then, taken}
 use Rattle.dp_actions.specs.Setting.{Setting, Part}
 use Rattle.dp_actions.specs.Values.{holds}
 use Rattle.dp_meaning.specs.Momentless.{is_momentless}
-use Rattle.dp_meaning.specs.Statements.{KindRun, ArmRun, go_on, sequence, echoes, arms_run, return_run, statement_run, arm_run}
-use Rattle.dp_meaning.specs.Statements as runs_of
-use Rattle.dp_meaning.specs.inner.Parts.{kind_run}
+use Rattle.dp_actions.specs.Statements.{KindRun, ArmRun, go_on, sequence, echoes, arms_run, return_run, statement_run, arm_run}
+use Rattle.dp_actions.specs.Statements as runs_of
+use Rattle.dp_actions.specs.inner.StatementParts.{kind_run}
 use Rattle.dp_meaning.proofs.Always.{Each}
 use Rattle.dp_meaning.proofs.PureLaws.{both-true}
 use Rattle.dp_meaning.proofs.QuietLaws.{IsQuiet, Given, Finished, QuietPart, quiet-momentless, quiet-all}

@@ -2,7 +2,7 @@
 
 ghost use Rattle.std.specs.Prelude.{◌≡◌, ◌&&◌, true};
 ghost use Rattle.dp_actions.specs.Setting.{Setting};
-ghost use Rattle.dp_meaning.specs.Statements.{statement_run};
+ghost use Rattle.dp_actions.specs.Statements.{statement_run};
 ghost use Rattle.dp_quiet.specs.Quiet as quiet;
 ghost use Rattle.dp_state.specs.declared.state.State.{State};
 

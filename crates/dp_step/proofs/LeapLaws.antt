@@ -20,7 +20,7 @@ use Rattle.dp_meaning.specs.declared.stop.Stop.TheVariants as stop
 use Rattle.dp_meaning.specs.declared.writes.NumberedWrite.{NumberedWrite}
 use Rattle.dp_meaning.specs.inner.Drive.{Ends, Reached, drive, only_bounded, stopped}
 use Rattle.dp_meaning.specs.Programs.{program_run}
-use Rattle.dp_meaning.specs.Statements.{statement_run}
+use Rattle.dp_actions.specs.Statements.{statement_run}
 use Rattle.dp_meaning.specs.Trace.{End, Ended, Gave, Trace, moment_of, outcome, outcome_of, program_trace}
 use Rattle.dp_meaning.specs.Trace.{trace, with_moment}
 use Rattle.dp_meaning.specs.Writes.{Writes, arrived, written, writes_of}

@@ -14,7 +14,7 @@ use Rattle.dp_meaning.specs.Programs.{program_run, setting_of}
 use Rattle.dp_actions.specs.Bodies.{statements_of}
 use Rattle.dp_actions.specs.Run.{Run, Done, Over, At, and_then}
 use Rattle.dp_actions.specs.Setting.{Setting}
-use Rattle.dp_meaning.specs.Statements.{body_run}
+use Rattle.dp_actions.specs.Statements.{body_run}
 use Rattle.dp_meaning.specs.Stops.{following}
 use Rattle.dp_meaning.specs.Trace.{Trace, outcome_of, program_trace, trace}
 use Rattle.dp_meaning.specs.Writes.{Writes, written, written_by, writes_of}

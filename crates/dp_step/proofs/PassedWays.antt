@@ -6,7 +6,7 @@ use Rattle.dp_state.specs.declared.state.State.{State}
 use Rattle.dp_actions.specs.declared.halt.Halt.TheVariants as halt
 use Rattle.dp_actions.specs.declared.signal.Signal.{Signal}
 use Rattle.dp_actions.specs.Run.{Run, Done, Over, At, ◌>>=◌}
-use Rattle.dp_meaning.specs.Statements.{statement_run}
+use Rattle.dp_actions.specs.Statements.{statement_run}
 use Rattle.dp_meaning.specs.Whole.{RunsWhole}
 use Rattle.dp_meaning.specs.Writes.{writes_of}
 use Rattle.dp_meaning.proofs.Wholes.{meets}

@@ -17,11 +17,12 @@ use Rattle.dp_actions.specs.declared.halt.Halt.{Halt}
 use Rattle.dp_actions.specs.declared.halt.Halt.TheVariants.{Memory, Finished, Stopped}
 use Rattle.dp_actions.specs.declared.signal.Signal.{Signal}
 use Rattle.dp_actions.specs.AtOnce.{AtOnce}
-use Rattle.dp_meaning.specs.Programs.{leaving, left_file, setting_of}
+use Rattle.dp_meaning.specs.Programs.{setting_of}
+use Rattle.dp_actions.specs.Bodies.{leaving, left_file}
 use Rattle.dp_actions.specs.Bodies.{statements_of}
 use Rattle.dp_actions.specs.Run.{Run, Over, At, and_then, taken, ◌>>=◌}
 use Rattle.dp_actions.specs.Setting.{Setting}
-use Rattle.dp_meaning.specs.Statements.{body_run}
+use Rattle.dp_actions.specs.Statements.{body_run}
 use Rattle.dp_meaning.proofs.CallLaws.{file-is, suc-call, suc-include, zero-call, zero-include}
 use Rattle.dp_actions.proofs.Runs.{and_then-assoc, and_then-same}
 use Rattle.dp_step.specs.declared.machine.Machine.{Machine}

@@ -12,7 +12,7 @@ use Rattle.dp_meaning.specs.declared.writes.NumberedWrite.{NumberedWrite}
 use Rattle.dp_meaning.specs.Programs.{program_run, setting_of}
 use Rattle.dp_actions.specs.Bodies.{statements_of}
 use Rattle.dp_actions.specs.Run.{Run, Done, Over}
-use Rattle.dp_meaning.specs.Statements.{body_run}
+use Rattle.dp_actions.specs.Statements.{body_run}
 use Rattle.dp_meaning.specs.Stops.{following}
 use Rattle.dp_meaning.specs.Trace.{moment_at, now, outcome, program_trace}
 use Rattle.dp_meaning.specs.Writes.{writes_of}

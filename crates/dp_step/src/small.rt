@@ -5,7 +5,7 @@ ghost use Rattle.dp_state.specs.declared.state.State.{State as SomeState};
 ghost use Rattle.dp_actions.specs.Bodies.{statements_of as body_of};
 ghost use Rattle.dp_actions.specs.Run.{and_then};
 ghost use Rattle.dp_actions.specs.Setting.{Setting};
-ghost use Rattle.dp_meaning.specs.Statements.{body_run};
+ghost use Rattle.dp_actions.specs.Statements.{body_run};
 ghost use Rattle.dp_state.specs.States.{line_of};
 ghost use Rattle.dp_step_statements.specs.Rest.{behind, hand_rest, waiting_rest};
 ghost use Rattle.dp_step_parts.specs.Rest.{Follows, to_signal};

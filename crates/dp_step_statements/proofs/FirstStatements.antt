@@ -13,12 +13,12 @@ use Rattle.dp_actions.specs.declared.signal.Signal.{Signal}
 use Rattle.dp_actions.specs.Expressions.{evaluation, evaluations, expression_run, place_run}
 use Rattle.dp_actions.specs.Run.{Run, At, and_then, taken, ◌>>=◌}
 use Rattle.dp_actions.specs.Setting.{Setting, Part}
-use Rattle.dp_meaning.specs.inner.Parts.{kind_run}
-use Rattle.dp_meaning.specs.Statements.{ArmRun, KindRun, body_run, branch, echoes, echoed, go_on, statement_run}
+use Rattle.dp_actions.specs.inner.StatementParts.{kind_run}
+use Rattle.dp_actions.specs.Statements.{ArmRun, KindRun, body_run, branch, echoes, echoed, go_on, statement_run}
 use Rattle.dp_actions.proofs.Runs.{and_then-assoc}
 use Rattle.dp_actions.specs.Places.{PlaceRun, unset_run}
 use Rattle.dp_actions.proofs.Layers.{run-place}
-use Rattle.dp_meaning.proofs.Layers.{kind-If, run-arm, run-statement}
+use Rattle.dp_actions.proofs.StatementLayers.{kind-If, run-arm, run-statement}
 use Rattle.dp_step_statements.specs.Rest.{arms_part, branch_of, next_to}
 use Rattle.dp_step_parts.specs.Rest.{Follows, to_signal}
 use Rattle.dp_step_parts.proofs.FirstParts.{from-member}

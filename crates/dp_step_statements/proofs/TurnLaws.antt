@@ -14,9 +14,9 @@ use Rattle.dp_actions.specs.Run.{Run, Done, At, and_then, ◌>>=◌}
 use Rattle.dp_actions.specs.Setting.{Setting}
 use Rattle.dp_actions.specs.Values.{holds}
 use Rattle.dp_tree.specs.declared.tree.Expression.{Expression}
-use Rattle.dp_meaning.specs.Statements.{go_on, statement_run}
+use Rattle.dp_actions.specs.Statements.{go_on, statement_run}
 use Rattle.dp_actions.proofs.Runs.{and_then-assoc}
-use Rattle.dp_meaning.proofs.LoopLaws.{turn-on, turn-out}
+use Rattle.dp_actions.proofs.AfterBodies.{turn-on, turn-out}
 use Rattle.dp_actions.specs.declared.turns.LoopStep.TheVariants as turn
 use Rattle.dp_step_statements.specs.declared.work.DoTurns.{DoTurns}
 use Rattle.dp_step_statements.specs.declared.work.EachTurns.{EachTurns}

@@ -18,14 +18,14 @@ use Rattle.dp_actions.specs.declared.signal.Signal.TheVariants.{Next, Return}
 use Rattle.dp_actions.specs.Calls.{include_run}
 use Rattle.dp_actions.specs.Expressions.{evaluation, evaluations, expression_run}
 use Rattle.dp_actions.specs.Expressions.{place_run}
-use Rattle.dp_meaning.specs.Statements.{arm_run}
+use Rattle.dp_actions.specs.Statements.{arm_run}
 use Rattle.dp_actions.specs.Loops.{bind, do_turns, each_run, entries, last_holds, after_body, turns}
 use Rattle.dp_actions.specs.Places.{unset_run}
-use Rattle.dp_meaning.specs.Programs.{leaving, left_call, left_file}
+use Rattle.dp_actions.specs.Bodies.{leaving, left_call, left_file}
 use Rattle.dp_actions.specs.Run.{Run, Done, Over, At, taken, ◌>>=◌}
 use Rattle.dp_actions.specs.Setting.{Setting, Part}
-use Rattle.dp_meaning.specs.Statements.{arms_run, body_run, echoed, echoes}
-use Rattle.dp_meaning.specs.Statements.{each_turns, go_on, statement_run}
+use Rattle.dp_actions.specs.Statements.{arms_run, body_run, echoed, echoes}
+use Rattle.dp_actions.specs.Statements.{each_turns, go_on, statement_run}
 use Rattle.dp_actions.specs.Effects.{exit_run, with_globals}
 use Rattle.dp_actions.specs.Values.{holds}
 use Rattle.dp_step_parts.specs.declared.work.Given.TheVariants as given

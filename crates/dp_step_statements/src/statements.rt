@@ -7,7 +7,7 @@ ghost use Rattle.dp_actions.specs.Expressions.{expression_run, place_run};
 ghost use Rattle.dp_actions.specs.Places.{unset_run};
 ghost use Rattle.dp_actions.specs.Run.{and_then};
 ghost use Rattle.dp_actions.specs.Setting.{Setting};
-ghost use Rattle.dp_meaning.specs.Statements.{body_run, echoes, end_run, return_run, statement_run};
+ghost use Rattle.dp_actions.specs.Statements.{body_run, echoes, end_run, return_run, statement_run};
 ghost use Rattle.dp_step_statements.specs.Rest.{arms_part, branch_decided, first_body_run, first_run};
 ghost use Rattle.dp_step_statements.specs.Rest.{next_rest, next_to, small_rest};
 ghost use Rattle.dp_step_statements.specs.declared.work.Hand.TheVariants as any_hand;

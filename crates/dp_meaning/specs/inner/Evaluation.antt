@@ -8,7 +8,7 @@ use Rattle.dp_actions.specs.declared.signal.Signal.{Signal}
 use Rattle.dp_meaning.specs.Programs.{setting_of}
 use Rattle.dp_actions.specs.Run.{◌>>=◌}
 use Rattle.dp_actions.specs.Setting.{Setting, Part}
-use Rattle.dp_meaning.specs.Statements.{each_turns, for_turns}
+use Rattle.dp_actions.specs.Statements.{each_turns, for_turns}
 
 abbrev pub goes_by : {O : Type 0} → Evaluator O → Setting
 goes_by evaluator = setting_of evaluator.bundle.now evaluator.bound evaluator.depth

@@ -10,11 +10,12 @@ use Rattle.dp_tree.specs.declared.tree.Function.{Function}
 use Rattle.dp_actions.specs.declared.halt.Halt.{Halt}
 use Rattle.dp_actions.specs.declared.halt.Halt.TheVariants as halt
 use Rattle.dp_actions.specs.declared.signal.Signal.{Signal}
-use Rattle.dp_meaning.specs.Programs.{leaving, left_file, setting_of}
+use Rattle.dp_meaning.specs.Programs.{setting_of}
+use Rattle.dp_actions.specs.Bodies.{leaving, left_file}
 use Rattle.dp_actions.specs.Bodies.{statements_of}
 use Rattle.dp_actions.specs.Run.{Run, Done, Over, At, ◌>>=◌}
 use Rattle.dp_actions.specs.Setting.{Setting}
-use Rattle.dp_meaning.specs.Statements.{body_run}
+use Rattle.dp_actions.specs.Statements.{body_run}
 use Rattle.dp_meaning.specs.Trace.{moment_of}
 use Rattle.dp_meaning.specs.Writes.{arrived}
 use Rattle.dp_step.specs.declared.machine.Machine.{Machine}

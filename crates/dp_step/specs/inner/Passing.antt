@@ -7,7 +7,7 @@ use Rattle.dp_tree.specs.declared.tree.Statement.{Statement}
 use Rattle.dp_actions.specs.declared.signal.Signal.{Signal}
 use Rattle.dp_actions.specs.Run.{Run, Done, Over, At, ◌>>=◌}
 use Rattle.dp_actions.specs.Setting.{Setting}
-use Rattle.dp_meaning.specs.Statements.{statement_run}
+use Rattle.dp_actions.specs.Statements.{statement_run}
 use Rattle.dp_meaning.specs.Trace.{moment_of}
 use Rattle.dp_meaning.specs.Writes.{arrived}
 use Rattle.dp_quiet.specs.Quiet.{OnFree, is_free}

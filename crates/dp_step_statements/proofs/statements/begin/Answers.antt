@@ -5,7 +5,7 @@ use Rattle.dp_actions.specs.Places.{unset_run}
 use Rattle.dp_actions.specs.Run.{Done, and_then}
 use Rattle.dp_step_parts.specs.Rest.{to_signal}
 use Rattle.dp_actions.proofs.Runs.{and_then-assoc}
-use Rattle.dp_meaning.proofs.Layers.{kind-Block, kind-Break, kind-Continue, kind-DoWhile, kind-Echo, kind-Empty, kind-Exit, kind-Expression, kind-For, kind-Foreach, kind-Global, kind-Return, kind-Unset, kind-While}
+use Rattle.dp_actions.proofs.StatementLayers.{kind-Block, kind-Break, kind-Continue, kind-DoWhile, kind-Echo, kind-Empty, kind-Exit, kind-Expression, kind-For, kind-Foreach, kind-Global, kind-Return, kind-Unset, kind-While}
 use Rattle.dp_step_statements.proofs.FirstStatements.{if-is, placed-is, statement-is}
 use Rattle.dp_step_statements.proofs.statements.begin.Goals as goal
 

@@ -1,7 +1,7 @@
 use Rattle.std.proofs.Common.{refl, sym}
 use Rattle.dp_actions.specs.Expressions.{evaluation}
 use Rattle.dp_actions.specs.Run.{and_then}
-use Rattle.dp_meaning.specs.Statements.{returning}
+use Rattle.dp_actions.specs.Statements.{returning}
 use Rattle.dp_actions.proofs.Runs.{and_then-assoc}
 use Rattle.dp_step_parts.specs.Rest.{to_signal}
 use Rattle.dp_step_statements.proofs.statements.return_value.Goals as goal

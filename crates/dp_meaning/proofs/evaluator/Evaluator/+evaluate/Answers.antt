@@ -12,13 +12,13 @@ use Rattle.dp_meaning.specs.inner.Evaluation.{goes_by}
 use Rattle.dp_actions.specs.Calls.{callee_of}
 use Rattle.dp_actions.specs.Expressions.{evaluation, evaluations, place_run}
 use Rattle.dp_meaning.specs.inner.Sizes.{arm_size, body_size, expressions_size, sizes_sum, statement_size}
-use Rattle.dp_meaning.specs.Statements.{arms_run, statement_run}
+use Rattle.dp_actions.specs.Statements.{arms_run, statement_run}
 use Rattle.dp_actions.specs.Effects.{print_run}
-use Rattle.dp_meaning.specs.Statements.{arm_run}
+use Rattle.dp_actions.specs.Statements.{arm_run}
 use Rattle.dp_meaning.proofs.CallLaws.{bounded-do, bounded-turns, call-is, file-is, next-done, runs-for, setting-bundle, suc-call, suc-include, zero-call, zero-include}
 use Rattle.dp_meaning.proofs.Drives.{at_once, breaks_off, ends, exits, gives, goes_on, joined_off, joined_on, passes, stops_at, tested_off, tested_on, then_at, then_on}
 use Rattle.dp_actions.proofs.Layers.{found-plain, run-Array, run-Assign, run-Bool, run-Call, run-Chain, run-Coalesce, run-CoalesceAssign, run-Compound, run-Conditional, run-Include, run-Index, run-Isset, run-item-None, run-item-Some, run-link, run-Null, run-Number, run-place, run-Push, run-Step, run-Text, run-Unary, run-Variable}
-use Rattle.dp_meaning.proofs.Layers.{kind-Block, kind-Break, kind-Continue, kind-DoWhile, kind-Echo, kind-Empty, kind-Exit, kind-Expression, kind-For, kind-Foreach, kind-Global, kind-If, kind-Return, kind-Unset, kind-While, run-arm, run-statement}
+use Rattle.dp_actions.proofs.StatementLayers.{kind-Block, kind-Break, kind-Continue, kind-DoWhile, kind-Echo, kind-Empty, kind-Exit, kind-Expression, kind-For, kind-Foreach, kind-Global, kind-If, kind-Return, kind-Unset, kind-While, run-arm, run-statement}
 use Rattle.dp_meaning.proofs.ListLaws.{front, front-at, place_off, place_on, values-all, values-break, values-first, values-more}
 use Rattle.dp_meaning.proofs.LoopLaws.{bind-breaks, body-breaks, body-out, do-body-breaks, do-body-out, do-end, do-goes-on, do-stops, do-test-breaks, each-body-breaks, each-goes-on, each-out, each-stops, next-breaks, test-breaks, turn-goes-on, turn-stops, turns-end}
 use Rattle.dp_meaning.proofs.SizeLaws.{frame-callee, frame-file, frame_less, size-arm, size-Block, size-DoWhile, size-Echo, size-Exit, size-Expression, size-For, size-Foreach, size-If, size-in, size-Return, size-some, size-Unset, size-While, sized}

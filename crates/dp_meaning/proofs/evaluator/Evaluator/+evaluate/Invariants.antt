@@ -23,8 +23,8 @@ use Rattle.dp_actions.specs.Loops.{do_turns, each_run, entries, turns}
 use Rattle.dp_actions.specs.Places.{isset_run, unset_run}
 use Rattle.dp_actions.specs.Bodies.{statements_of}
 use Rattle.dp_meaning.specs.inner.Sizes.{arm_size, body_size, expression_size, expressions_size, frame_size, optional_size, sizes_sum, statement_size}
-use Rattle.dp_meaning.specs.Statements.{arms_run, body_run, echoes, statement_run}
-use Rattle.dp_meaning.specs.Statements.{arm_run}
+use Rattle.dp_actions.specs.Statements.{arms_run, body_run, echoes, statement_run}
+use Rattle.dp_actions.specs.Statements.{arm_run}
 use Rattle.dp_meaning.proofs.ListLaws.{more_values}
 use Rattle.dp_meaning.proofs.evaluator.Evaluator.+evaluate.Given as goal
 

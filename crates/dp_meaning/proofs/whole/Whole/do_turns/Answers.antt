@@ -2,7 +2,7 @@ use Rattle.std.proofs.Common.{ap}
 use Rattle.dp_meaning.specs.declared.pure.Unwatched.{Unwatched}
 use Rattle.dp_actions.specs.Expressions.{evaluation}
 use Rattle.dp_actions.specs.Loops.{do_turns}
-use Rattle.dp_meaning.specs.Statements.{statement_run}
+use Rattle.dp_actions.specs.Statements.{statement_run}
 use Rattle.dp_meaning.proofs.Wholes.{runs-whole}
 use Rattle.dp_meaning.proofs.whole.Whole.do_turns.Goals as goal
 

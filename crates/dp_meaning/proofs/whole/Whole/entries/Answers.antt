@@ -1,7 +1,7 @@
 use Rattle.std.proofs.Common.{drop, ap}
 use Rattle.dp_meaning.specs.declared.pure.Unwatched.{Unwatched}
 use Rattle.dp_actions.specs.Loops.{each_run, entries}
-use Rattle.dp_meaning.specs.Statements.{statement_run}
+use Rattle.dp_actions.specs.Statements.{statement_run}
 use Rattle.dp_meaning.proofs.Wholes.{runs-whole}
 use Rattle.dp_meaning.proofs.whole.Whole.entries.Goals as goal
 

@@ -2,7 +2,7 @@ use Rattle.std.proofs.Common.{ap}
 use Rattle.dp_meaning.specs.declared.pure.Unwatched.{Unwatched}
 use Rattle.dp_actions.specs.Expressions.{evaluations}
 use Rattle.dp_actions.specs.Loops.{turns}
-use Rattle.dp_meaning.specs.Statements.{statement_run}
+use Rattle.dp_actions.specs.Statements.{statement_run}
 use Rattle.dp_meaning.proofs.Wholes.{runs-whole}
 use Rattle.dp_meaning.proofs.whole.Whole.turns.Goals as goal
 

@@ -1,7 +1,7 @@
 use Rattle.std.proofs.Common.{drop, refl}
 use Rattle.std.proofs.lemmas.Result.{IfOk-weaker}
 use Rattle.dp_actions.specs.Loops.{each_run, entries}
-use Rattle.dp_meaning.specs.Statements.{statement_run}
+use Rattle.dp_actions.specs.Statements.{statement_run}
 use Rattle.dp_step.proofs.LeapLaws.{leaps_as}
 use Rattle.dp_step.proofs.machine.Machine.entries.Goals as goal
 

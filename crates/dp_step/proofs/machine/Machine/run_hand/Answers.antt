@@ -1,6 +1,6 @@
 use Rattle.std.proofs.Common.{refl, sym, ◌∙◌}
 use Rattle.std.proofs.lemmas.Result.{IfOk-weaker}
-use Rattle.dp_meaning.specs.Statements.{statement_run}
+use Rattle.dp_actions.specs.Statements.{statement_run}
 use Rattle.dp_step.proofs.LeapLaws.{leaps_hand}
 use Rattle.dp_step.proofs.machine.Machine.run_hand.Goals as goal
 

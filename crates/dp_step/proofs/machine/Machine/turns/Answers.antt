@@ -2,7 +2,7 @@ use Rattle.std.proofs.Common.{[], ◌∷◌, refl}
 use Rattle.std.proofs.lemmas.Result.{IfOk-weaker}
 use Rattle.dp_actions.specs.Expressions.{evaluations}
 use Rattle.dp_actions.specs.Loops.{turns}
-use Rattle.dp_meaning.specs.Statements.{statement_run}
+use Rattle.dp_actions.specs.Statements.{statement_run}
 use Rattle.dp_step.proofs.LeapLaws.{leaps_as, turns-by}
 use Rattle.dp_step.proofs.machine.Machine.turns.Goals as goal
 

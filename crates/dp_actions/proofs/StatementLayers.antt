@@ -10,9 +10,9 @@ use Rattle.dp_tree.specs.declared.tree.StatementKind.TheFolds.{fold-roll-Stateme
 use Rattle.dp_tree.specs.declared.tree.StatementKind.TheOpen.{StatementKind-F}
 use Rattle.dp_tree.specs.declared.tree.StatementKind.TheVariants as kind
 use Rattle.dp_actions.specs.Setting.{Part}
-use Rattle.dp_meaning.specs.Statements.{KindRun, ArmRun, arms_run, kind_layer, arm_layer, statement_layer, statement_run}
-use Rattle.dp_meaning.specs.inner.Parts.{kind_run}
-use Rattle.dp_meaning.specs.Statements.{arm_run}
+use Rattle.dp_actions.specs.Statements.{KindRun, ArmRun, arms_run, kind_layer, arm_layer, statement_layer, statement_run}
+use Rattle.dp_actions.specs.inner.StatementParts.{kind_run}
+use Rattle.dp_actions.specs.Statements.{arm_run}
 use Rattle.dp_actions.specs.declared.signal.Signal.{Signal}
 
 -- ---- statements
