@@ -23,7 +23,8 @@ module _ (id : ℕ) where
       ap (λ (t : Bool). cond (not t) (b ∷ kept held) (kept held)) other
       ∙ ap (λ l. b ∷ l) (kept_all (b.id + 1) held next (omega arith) a.1)
 
-  changed_none : (change : Breakpoint → Breakpoint) (least : ℕ) (held : List Breakpoint) (next : ℕ) → id < least → Ascend least held next
+  changed_none : (change : Breakpoint → Breakpoint) (least : ℕ) (held : List Breakpoint) (next : ℕ) → id < least
+      → Ascend least held next
       → with_changed change held ≡ held
   changed_none change least [] next below a = refl
   changed_none change least (b ∷ held) next below a =

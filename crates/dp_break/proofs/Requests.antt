@@ -17,7 +17,8 @@ use Rattle.dp_break.specs.Conditions.{condition_of, expression_limit, has_no_tre
 use Rattle.dp_break.specs.declared.errors.BreakError.{BreakError}
 use Rattle.dp_break.specs.declared.errors.BreakError.TheVariants as error
 use Rattle.dp_break.specs.Hits.{is_of_function}
-use Rattle.dp_break.specs.Lines.{code_in, given_line, line_kept, requested_line}
+use Rattle.dp_packet.specs.Messages.{code_in}
+use Rattle.dp_break.specs.Lines.{given_line, line_kept, requested_line}
 use Rattle.dp_break.specs.Refusals.{cannot_be_held, code_if, place_kept, place_refusal, plain_refusal}
 use Rattle.dp_break.specs.Tables.{IsSound, Table, breakpoint_limit, has_parts, last_id}
 use Rattle.dp_break.specs.inner.Causes.{IsNoTree, error_of, pure_or_refused}

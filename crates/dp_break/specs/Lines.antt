@@ -1,5 +1,5 @@
--- The line that a breakpoint has where one is asked for: that line, or, for an IDE that lets it move,
--- the next one that has code.
+-- The line that a breakpoint has where one is asked for: that line, or, for an IDE that lets it
+-- move, the next one that has code.
 use Rattle.std.specs.Prelude.{ℕ, ◌==◌, nat_lt, Bool, ◌||◌, if◌then◌else◌, slice_get, Option, Some, None, Result, Ok, Err}
 use Rattle.std.specs.Option.{option_map_or}
 use Rattle.dp_parse.specs.NextCode.{next_code}
@@ -44,8 +44,3 @@ requested_line resolve bundle file line = Ok line
 abbrev pub line_in : Result (Option ℕ) ErrorCode → Option ℕ
 line_in (Ok line) = line
 line_in (Err code) = None
-
--- the code, where it is refused
-abbrev pub code_in : {A : Type 0} → Result A ErrorCode → Option ErrorCode
-code_in (Ok a) = None
-code_in (Err code) = Some code

@@ -11,7 +11,8 @@ use Rattle.dp_break.specs.declared.errors.BreakError.{BreakError}
 use Rattle.dp_break.specs.declared.errors.BreakError.TheVariants as error
 use Rattle.dp_break.specs.Conditions.{has_no_tree, is_too_long}
 use Rattle.dp_break.specs.Hits.{is_of_function}
-use Rattle.dp_break.specs.Lines.{code_in, requested_line}
+use Rattle.dp_packet.specs.Messages.{code_in}
+use Rattle.dp_break.specs.Lines.{requested_line}
 use Rattle.dp_break.specs.Tables.{Table, breakpoint_limit, last_id}
 use Rattle.dp_packet.specs.declared.error_codes.ErrorCode.{ErrorCode}
 use Rattle.dp_packet.specs.declared.error_codes.ErrorCode.TheVariants.{InvalidOptions, BreakpointNotSet, NoSuchBreakpoint, InvalidExpression}

@@ -196,8 +196,8 @@ impl Breaks {
 
     /// Changes a breakpoint. Its count stays. It is refused with the first of these codes whose test holds: 205 where
     /// no breakpoint has the id; 3 where a line is given to one on a function; 202 where the file does not have the
-    /// line, and 203 where no code is on it. Then nothing has changed. With `resolve` lines are as those of `add`. Takes
-    /// no memory.
+    /// line, and 203 where no code is on it. Then nothing has changed. With `resolve` lines are as those of `add`.
+    /// Takes no memory.
     pub fn update(
         &mut self,
         bundle: &Bundle,

@@ -202,7 +202,8 @@ abbrev failed : {A : Type 0} → BreakpointError → Result A BreakpointError
 failed e = Err e
 
 -- a request that what is held accepts is refused by no plain test
-pub plain_passed : {A : Type 0} (resolve : Bool) (bundle : Bundle) (here : ℕ) (t : Table) (set : BreakpointSet) (r : BreakRequest)
+pub plain_passed : {A : Type 0} (resolve : Bool) (bundle : Bundle) (here : ℕ) (t : Table) (set : BreakpointSet)
+    (r : BreakRequest)
     (id : ℕ) → refusal bundle set ≡ None → r ≡ request bundle here set
     → IfSome (plain_refusal resolve bundle t r) (λ code. held_id id ≡ Err (held.Code code))
     → (result : Result A BreakpointError)
@@ -219,7 +220,8 @@ plain_passed {A} resolve bundle here t set r id free is h result =
     by (Some code) h = absurd cc
 
 -- one that a plain test refuses is refused so
-pub plain_told : {A : Type 0} (resolve : Bool) (bundle : Bundle) (here : ℕ) (t : Table) (set : BreakpointSet) (r : BreakRequest)
+pub plain_told : {A : Type 0} (resolve : Bool) (bundle : Bundle) (here : ℕ) (t : Table) (set : BreakpointSet)
+    (r : BreakRequest)
     (e : BreakError) → refusal bundle set ≡ None → r ≡ request bundle here set
     → IfSome (plain_refusal resolve bundle t r) (λ code. not_held e ≡ Err (held.Code code))
     → (result : Result A BreakpointError) → IsErrAnd result (λ x. x ≡ error_of e)

@@ -59,12 +59,14 @@ abbrev not_held : BreakError → Result Unit BreakError
 not_held e = Err e
 
 -- a change whose words are refused is refused so
-pub words_told : (resolve : Bool) (bundle : Bundle) (t : Table) (update : BreakpointUpdate) (b : Breakpoint) (e : BreakpointError)
+pub words_told : (resolve : Bool) (bundle : Bundle) (t : Table) (update : BreakpointUpdate) (b : Breakpoint)
+    (e : BreakpointError)
     → Some b ≡ held_as t.held update.id
     → refused e ≡ answer_of (first_code (change_tests b.kind update)) (change update)
     → IsCode (update_refusal resolve bundle t update) e
 words_told resolve bundle t update b e found h =
-    subst (λ (o : Option Breakpoint). IsCode (option_map_or (change_refused resolve bundle update) o (Some NoSuchBreakpoint)) e)
+    subst (λ (o : Option Breakpoint). IsCode (option_map_or (change_refused resolve bundle update) o
+        (Some NoSuchBreakpoint)) e)
     found (by (first_code (change_tests b.kind update)) h)
   where
     by : (o : Option ErrorCode) → refused e ≡ answer_of o (change update)
@@ -78,13 +80,15 @@ held_told (Some code) e h =
     let same : e ≡ held.Code code = cc in subst (λ (x : BreakError). IsCode (Some code) (error_of x)) (sym same) refl
 
 -- one whose words are accepted is refused by what is held
-pub change_told : (resolve : Bool) (bundle : Bundle) (t : Table) (update : BreakpointUpdate) (b : Breakpoint) (c : BreakChange)
+pub change_told : (resolve : Bool) (bundle : Bundle) (t : Table) (update : BreakpointUpdate) (b : Breakpoint)
+    (c : BreakChange)
     (e : BreakError) → Some b ≡ held_as t.held update.id
     → accepted c ≡ answer_of (first_code (change_tests b.kind update)) (change update)
     → not_held e ≡ held_refusal.answer_of (held_refusal.update_refusal resolve bundle c (held_as t.held update.id))
     → IsCode (update_refusal resolve bundle t update) (error_of e)
 change_told resolve bundle t update b c e found words h =
-    subst (λ (o : Option Breakpoint). IsCode (option_map_or (change_refused resolve bundle update) o (Some NoSuchBreakpoint))
+    subst (λ (o : Option Breakpoint). IsCode (option_map_or (change_refused resolve bundle update) o
+        (Some NoSuchBreakpoint))
     (error_of e)) found
     (by (first_code (change_tests b.kind update)) words (subst (λ (o : Option Breakpoint). not_held e
     ≡ held_refusal.answer_of (held_refusal.update_refusal resolve bundle c o)) (sym found) h))

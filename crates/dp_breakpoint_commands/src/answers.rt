@@ -134,7 +134,8 @@ fn update_breakpoint(
 ) -> Result<Response, BreakpointError>
     ensures response { IfOk result (λ r. r ≡ spec.bare_response to.now.command to.now.id) }
     ensures accepted { OnOk result (spec.update_refusal resolve bundle.now breaks.old update.now ≡ None) }
-    ensures table { OnOk result (breaks.new ≡ with_change resolve bundle.now update.now.id (change update.now) breaks.old) }
+    ensures table
+        { OnOk result (breaks.new ≡ with_change resolve bundle.now update.now.id (change update.now) breaks.old) }
     ensures refused { IfErr result (IsCause (spec.update_refusal resolve bundle.now breaks.old update.now)) }
     ensures surely { IfSome (spec.update_refusal resolve bundle.now breaks.old update.now) (λ code.
         result ≡ Err (BreakpointError.Code code)) }
@@ -195,9 +196,10 @@ fn respond(
 /// It is refused with the first code of its row whose test holds, and then nothing has changed: breakpoint_set with
 /// 201, 3, 204, 200, 202, 203 or 207; breakpoint_update with 205, 3, 204, 202 or 203; breakpoint_get and
 /// breakpoint_remove with 205. A list ends before the first breakpoint with which its text would have more than
-/// 16,777,216 bytes. Where it is wished that lines may move, a breakpoint goes to the next line that has code, from that
-/// which was asked for on, and 203 is for a line where that is none; and where that is to be told, news of each that
-/// went to another line than the one that was asked for goes before the response. Once memory ran out nothing is said of the breakpoints.
+/// 16,777,216 bytes. Where it is wished that lines may move, a breakpoint goes to the next line that has code, from
+/// that which was asked for on, and 203 is for a line where that is none; and where that is to be told, news of each
+/// that went to another line than the one that was asked for goes before the response. Once memory ran out nothing is
+/// said of the breakpoints.
 pub fn answer_breakpoints(
     alloc: Global,
     bundle: &Bundle,
@@ -215,7 +217,8 @@ pub fn answer_breakpoints(
         ≡ breakpoint_notice wishes bundle.now here breaks.old request) }
     ensures accepted { OnOk result (spec.breakpoint_refusal wishes.resolve bundle.now here breaks.old request ≡ None) }
     ensures table { OnOk result (breaks.new ≡ spec.breakpoint_table wishes.resolve bundle.now here request breaks.old) }
-    ensures refused { IfErr result (IsCause (spec.breakpoint_refusal wishes.resolve bundle.now here breaks.old request)) }
+    ensures refused
+        { IfErr result (IsCause (spec.breakpoint_refusal wishes.resolve bundle.now here breaks.old request)) }
     // Out of memory comes before a refusal only where a URI is to be decoded, or an expression is to be read.
     ensures surely { spec.names_uri request ≡ false
         → IfSome (spec.plain_breakpoint_refusal wishes.resolve bundle.now here breaks.old request) (λ code.

@@ -1,6 +1,6 @@
 //! The responses to breakpoint commands.
 
-ghost use Rattle.std.specs.Prelude.{◌≡◌, ◌≤◌, ◌∷◌, [], codes, decimal, length, IfOk};
+ghost use Rattle.std.specs.Prelude.{◌≡◌, ◌≤◌, ◌∷◌, codes, decimal, length, IfOk};
 ghost use Rattle.dp_breakpoint_commands.specs.Commands as spec;
 ghost use Rattle.dp_packet.specs.Breakpoints as breakpoints;
 ghost use Rattle.dp_packet.specs.declared.packet.Packet.TheVariants as packet;

@@ -1,5 +1,6 @@
 //! One session of the engine with an IDE.
-ghost use Rattle.std.specs.Prelude.{◌≡◌, ◌≢◌, ◌+◌, ◌≤◌, [], drop, false, length, map, option_to_list, true, IfOk, OnErr, OnOk};
+ghost use Rattle.std.specs.Prelude.{◌≡◌, ◌≢◌, ◌+◌, ◌≤◌, [], drop, false, length, map, option_to_list, true};
+ghost use Rattle.std.specs.Prelude.{IfOk, OnErr, OnOk};
 ghost use Rattle.std.specs.List.{AllByRecursion};
 ghost use Rattle.dp_wire.specs.Frames.{IsCommand, IsPacketText};
 ghost use Rattle.dp_outside.specs.Names.{key_limit};

@@ -1,9 +1,15 @@
 -- The codes of errors (DBGp 1.0, "Error Codes"), their numbers and their messages. The words of the
 -- messages are our own.
-use Rattle.std.specs.Prelude.{ℕ, Bool, true, false, ◌==◌, if◌then◌else◌, [], ◌∷◌, codes}
+use Rattle.std.specs.Prelude.{ℕ, Bool, true, false, ◌==◌, if◌then◌else◌, [], ◌∷◌, codes, Option, Some, None}
+use Rattle.std.specs.Prelude.{Result, Ok, Err}
 use Rattle.dp_packet.specs.declared.error_codes.ErrorCode.{ErrorCode}
 use Rattle.dp_packet.specs.declared.error_codes.ErrorCode.TheVariants.{ParseError, DuplicateArguments, InvalidOptions, UnimplementedCommand, CommandNotAvailable, CannotOpenFile, BreakpointNotSet, TypeNotSupported, InvalidBreakpointLine, NoCodeOnLine, InvalidBreakpointState, NoSuchBreakpoint, ErrorEvaluatingCode, InvalidExpression, CannotGetProperty, StackDepthInvalid, ContextInvalid, EncodingNotSupported}
 use Rattle.dp_packet.specs.Parts.{Text}
+
+-- the code of what is refused
+abbrev pub code_in : {A : Type 0} → Result A ErrorCode → Option ErrorCode
+code_in (Ok a) = None
+code_in (Err code) = Some code
 
 -- the number of a code in an error response
 abbrev pub number : ErrorCode → ℕ

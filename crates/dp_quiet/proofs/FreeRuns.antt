@@ -5,11 +5,8 @@ use Rattle.std.specs.List.{list_all}
 use Rattle.std.specs.Option.{option_map_or}
 use Rattle.dp_value.specs.declared.key.Key.{Key}
 use Rattle.dp_value.specs.declared.value.Value.{Value}
-use Rattle.dp_value.specs.Data.{Data, data_of_key}
-use Rattle.dp_value.specs.Value.{value_of}
+use Rattle.dp_value.specs.Data.{Data}
 use Rattle.dp_state.specs.declared.moments.FatalKind.{FatalKind}
-use Rattle.dp_state.specs.declared.moments.MomentKind.{MomentKind}
-use Rattle.dp_state.specs.declared.moments.MomentKind.TheVariants.{Place}
 use Rattle.dp_state.specs.declared.state.State.{State}
 use Rattle.dp_tree.specs.Purity.{all_pure}
 use Rattle.dp_tree.specs.declared.tree.Arm.{Arm, map-Arm, roll-Arm}
@@ -22,7 +19,7 @@ use Rattle.dp_tree.specs.declared.tree.StatementKind.TheOpen.{Statement-F, State
 use Rattle.dp_actions.specs.declared.signal.Signal.{Signal}
 use Rattle.dp_actions.specs.declared.signal.Signal.TheVariants.{Next, Break, Continue, Return}
 use Rattle.dp_actions.specs.Expressions.{expression_run, evaluation, evaluations}
-use Rattle.dp_actions.specs.Loops.{after_body, last_holds, turns, do_turns, bind_name, bind_key, bind, each_run, entries}
+use Rattle.dp_actions.specs.Loops.{after_body, last_holds, turns, do_turns, bind_key, bind, each_run, entries}
 use Rattle.dp_actions.specs.Run.{Run, Done, Over, At, and_then, taken}
 use Rattle.dp_actions.specs.Setting.{Setting, Part}
 use Rattle.dp_actions.specs.Values.{holds}
@@ -32,7 +29,7 @@ use Rattle.dp_actions.specs.Statements as runs_of
 use Rattle.dp_actions.specs.inner.StatementParts.{kind_run}
 use Rattle.dp_meaning.proofs.Always.{Each}
 use Rattle.dp_meaning.proofs.PureLaws.{both-true}
-use Rattle.dp_meaning.proofs.QuietLaws.{IsQuiet, Given, Finished, QuietPart, quiet-momentless, quiet-all}
+use Rattle.dp_meaning.proofs.QuietLaws.{IsQuiet, Given, Finished, quiet-momentless, quiet-all}
 use Rattle.dp_quiet.specs.Quiet.{is_free, is_quiet}
 use Rattle.dp_quiet.specs.Quiet as quiet
 use Rattle.dp_quiet.specs.inner.Parts.{kind_is_quiet, arm_is_quiet}

@@ -163,7 +163,8 @@ module _ {G In Out : Type 0} (g : gate_of.Ghosts G In Out) (handed : G) where
       (each_join (λ gate. Begins (gating g handed) (gating g gate)) t.twins (t.last ∷ []) (twins_begin t.twins t.each)
       (inl t.same, tt))
 
-pub zip_length : {A B : Type 0} (R : A → B → Type 0) (xs : List A) (ys : List B) → AllZip R xs ys → length ys ≡ length xs
+pub zip_length : {A B : Type 0} (R : A → B → Type 0) (xs : List A) (ys : List B) → AllZip R xs ys
+    → length ys ≡ length xs
 zip_length R [] [] all = refl
 zip_length R [] (y ∷ ys) all = absurd all
 zip_length R (x ∷ xs) [] all = absurd all
@@ -454,7 +455,8 @@ module _ {G GIn GOut H HIn HOut : Type 0} (g : gate_of.Ghosts G GIn GOut) (h : g
   dialed_none dials starts NoThread d = absurd d
   dialed_none dials starts Memory d = inl (untouched g gates, untouched h doors)
 
-  pub crewed_gated : (dials starts : Faults) (gs : List G) (hs : List H) (result : Result (Summary × List Entry) AllError)
+  pub crewed_gated : (dials starts : Faults) (gs : List G) (hs : List H)
+      (result : Result (Summary × List Entry) AllError)
       → Crewed g h gates doors registrations sessions starts gs hs result
       → Gated g h gates doors registrations sessions dials starts gs hs result
   crewed_gated dials starts gs hs (Ok done) c = c

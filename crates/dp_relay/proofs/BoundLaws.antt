@@ -67,7 +67,8 @@ at_least_less P (suc n) (x ∷ xs) some = elim some [
   | inr later ↦ inr (at_least_less P (suc n) xs later)
 ]
 
-pub at_least_fewer : {X : Type 0} (P : X → Type 0) (n m k : ℕ) (xs : List X) → m ≡ k + n → AtLeast P m xs → AtLeast P n xs
+pub at_least_fewer : {X : Type 0} (P : X → Type 0) (n m k : ℕ) (xs : List X) → m ≡ k + n → AtLeast P m xs
+    → AtLeast P n xs
 at_least_fewer P n m zero xs same some =
     let is : m ≡ n = omega (arith, same) in subst (λ l. AtLeast P l xs) is some
 at_least_fewer P n zero (suc k) xs same some = absurd (omega (arith, same))
@@ -94,7 +95,8 @@ IsTold (Some bytes) = Unit {0}
 
 -- what was read of a link that had given nothing is what it has given
 module _ (meets : List ℕ → Type 0) (read : List ℕ) (is : meets read) where
-  given_is : (before after : Option (List ℕ)) → BeginsEmpty before → Appends before after read → StaysSilent before after
+  given_is : (before after : Option (List ℕ)) → BeginsEmpty before → Appends before after read
+      → StaysSilent before after
       → OfGiven meets after
   given_is None None empty more silent = tt
   given_is None (Some bytes) empty more silent = absurd (subst IsTold silent tt)
@@ -113,7 +115,8 @@ module _ (v w : Known) (host read : List ℕ) where
   abbrev Named : Type 0
   Named = (w.made ≡ v.made) ⊎ ((call : Call) × (call_of (up_to_nul read) ≡ Some call))
 
-  noted_named : (at : List Entry) (found : Option Call) → call_of (up_to_nul read) ≡ found → Noted v at host found w → Named
+  noted_named : (at : List Entry) (found : Option Call) → call_of (up_to_nul read) ≡ found → Noted v at host found w
+      → Named
   noted_named at None is n = inl (ap (λ (k : Known). k.made) n.1)
   noted_named at (Some call) is n = inr (call, is)
 
@@ -272,7 +275,8 @@ pub record Serves (count : ℕ) (x y : EnginePost) : Type 0 where
   pub grows : IsPrefix x.clerk.seen y.clerk.seen
   pub registers : y.clerk.made.registers ≡ x.clerk.made.registers
 
-module _ (x y : EnginePost) (before after : Ends) (ide : Option Ends) (visited : Visited x.gate y.gate before after) where
+module _ (x y : EnginePost) (before after : Ends) (ide : Option Ends) (visited : Visited x.gate y.gate before after)
+    where
   -- an engine that came with a key, and was counted in the journal alone
   keyed_one : (read key : List ℕ) → Gave before after read → ComesWith read key → y.tally ≡ x.tally
       → Booked 1 x.clerk y.clerk x.tally y.tally → IsPrefix x.clerk.seen y.clerk.seen → Serves 1 x y

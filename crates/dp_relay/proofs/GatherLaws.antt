@@ -132,7 +132,8 @@ module _ {K L A : Type 0} (see : K → Gating) (listed : A → List K) (beside :
       }
 
   -- the first one was served, and so were the others
-  one_fine : (journal : List Entry) (a : K × ℕ) (lots : List (K × ℕ)) (b : K) (back : List K) (v u w : Known) (x z y : A)
+  one_fine : (journal : List Entry) (a : K × ℕ) (lots : List (K × ℕ)) (b : K) (back : List K) (v u w : Known)
+      (x z y : A)
       → Done a b v u x z → IsPrefix u.seen journal → counted (tally_of x) + total sessions (a ∷ lots) ≤ last_place
       → (counted (tally_of z) + total sessions lots ≤ last_place → Fine journal lots back u w z y)
       → Fine journal (a ∷ lots) (b ∷ back) v w x y
@@ -162,7 +163,8 @@ module _ {K L A : Type 0} (see : K → Gating) (listed : A → List K) (beside :
             (omega (arith, ap (λ (t : Tally). t.starved) r.tally, ap (λ (t : Tally). t.starved) sum));
       }
 
-  module _ (a : K × ℕ) (lots : List (K × ℕ)) (v u w : Known) (x z y : A) (o : One a v u x z) (r : Over lots u w z y) where
+  module _ (a : K × ℕ) (lots : List (K × ℕ)) (v u w : Known) (x z y : A) (o : One a v u x z) (r : Over lots u w z y)
+      where
     items_led : listed y ≡ listed x ++ o.back ∷ r.back
     items_led = r.items ∙ (ap (λ l. l ++ r.back) o.items ∙ append_assoc (listed x) (o.back ∷ []) r.back)
 
@@ -185,7 +187,8 @@ module _ {K L A : Type 0} (see : K → Gating) (listed : A → List K) (beside :
             | inr one ↦ inr one
           ];
           fine = λ f s journal front room.
-              one_fine journal a lots o.back r.back v u w x z y d (prefix_trans u.seen w.seen journal r.grows front) room
+              one_fine journal a lots o.back r.back v u w x z y d (prefix_trans u.seen w.seen journal r.grows front)
+                  room
               (r.fine f s journal front);
         }
 

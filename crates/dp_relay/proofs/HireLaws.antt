@@ -36,7 +36,8 @@ pub whole_at : {X A : Type 0} (s : IntoIter X A) (xs : List X) (t : IntoIter X A
 whole_at s xs t all x more y given next =
     sym given ∙ (taken_front s xs t y ∙ ap (λ l. xs ++ l) next)
 
-pub some_left : {X A : Type 0} (s : IntoIter X A) (xs : List X) (t : IntoIter X A) (all : List X) (x : X) (more : List X)
+pub some_left : {X A : Type 0} (s : IntoIter X A) (xs : List X) (t : IntoIter X A) (all : List X) (x : X)
+    (more : List X)
     → Yields into_iter_steps s xs t → into_iter_items s ≡ all → into_iter_items t ≡ x ∷ more → length xs < length all
 some_left s xs t all x more y given next =
     omega (arith, ap (λ l. length l) (whole_at s xs t all x more y given next), length-append xs (x ∷ more))

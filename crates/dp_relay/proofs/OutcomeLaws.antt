@@ -203,9 +203,11 @@ module _ {G GIn GOut H HIn HOut D DIn DOut P Rt E T O : Type 0} (g : gate_of.Gho
       (end : Result ⊤ E) → IsEngines gate q → IsSplit base own → Did g h d p q own count over after end
       → (v u : Known) (x z : Account G H) → TookOver over after end v u x z → OneEngine (gate, count) v u x z
   engine_over gate own count (port.Ides other) over after end is split did v u x z took = absurd is
-  engine_over gate own count (port.Engines first dialer spawner) (closed.Ides back) after end is split did v u x z took =
+  engine_over gate own count (port.Engines first dialer spawner) (closed.Ides back) after end is split did v
+      u x z took =
       absurd did
-  engine_over gate own count (port.Engines first dialer spawner) (closed.Engines back t) after (Ok done) is split did v u x z took =
+  engine_over gate own count (port.Engines first dialer spawner) (closed.Engines back t) after (Ok done) is split did v
+      u x z took =
       let book : Booked count own after (tally 0 0 0 0) t = did.1 in
       let none : own.made.admits ≡ 0 = ap (λ (m : Made). m.admits) split.made in
       record {
@@ -213,7 +215,8 @@ module _ {G GIn GOut H HIn HOut D DIn DOut P Rt E T O : Type 0} (g : gate_of.Gho
         items = took.gate.1;
         others = ap (λ e. e.items) took.gate.0;
         came = subst (λ k. IsBack (gating h k) (gating h back)) is
-            (works_back {E = E} (λ k. k.gate) ServedEngine NoEngine engine_asked engine_missed count _ _ (Ok done) did.0.1);
+            (works_back {E = E} (λ k. k.gate) ServedEngine NoEngine engine_asked engine_missed count _ _ (Ok done)
+                did.0.1);
         how = inl (record {
           worker = record { begun = first; count = count; before = own; after = after; tally = t };
           begun = is;
@@ -235,13 +238,15 @@ module _ {G GIn GOut H HIn HOut D DIn DOut P Rt E T O : Type 0} (g : gate_of.Gho
           stopped = took.no_thread;
         });
       }
-  engine_over gate own count (port.Engines first dialer spawner) (closed.Engines back t) after (Err why) is split did v u x z took =
+  engine_over gate own count (port.Engines first dialer spawner) (closed.Engines back t) after (Err why) is split did v
+      u x z took =
       record {
         back = back;
         items = took.gate.1;
         others = ap (λ e. e.items) took.gate.0;
         came = subst (λ k. IsBack (gating h k) (gating h back)) is
-            (works_back {E = E} (λ k. k.gate) ServedEngine NoEngine engine_asked engine_missed count _ _ (Err why) did.0.1);
+            (works_back {E = E} (λ k. k.gate) ServedEngine NoEngine engine_asked engine_missed count _ _ (Err why)
+                did.0.1);
         how = inr (inl (record {
           rose = subst (λ k. Rose (h.faults k) (h.faults back)) is
               (works_rose {E = E} (λ k. k.gate) ServedEngine NoEngine engine_asked engine_missed count _ _ why did.0.1);
@@ -321,7 +326,8 @@ module _ {G GIn GOut H HIn HOut D DIn DOut P Rt E T O : Type 0} (g : gate_of.Gho
 
   pub is_own : (task : T) (answer : Result O T) → (clerk_of task).desk ≡ base.desk → Ran task answer → IsOwn answer
   is_own task (Ok over) same ran =
-      own_desk base (port_of task) (clerk_of task) (count_of task) (closed_of over) (clerk_over over) (over_of over) same
+      own_desk base (port_of task) (clerk_of task) (count_of task) (closed_of over) (clerk_over over) (over_of over)
+          same
       ran
   is_own task (Err back) same ran = tt
 

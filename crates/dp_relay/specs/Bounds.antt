@@ -40,11 +40,13 @@ IsKeyed link = OfGiven (λ given. (key : List ℕ) × ComesWith given key) link.
 -- nothing is left or no packet begins it
 abbrev pub IsUnfit : Link → Type 0
 IsUnfit link =
-    OfGiven (λ given. IsKeyless given link.left ⊎ ((offset : ℕ) × IsBadFirst given offset)) link.given
+    OfGiven (λ given. IsKeyless given link.left ⊎ ((offset : ℕ) × IsBadFirst given offset))
+        link.given
 
 -- the link of an IDE: its command names a call
 abbrev pub NamesCall : Link → Type 0
-NamesCall link = OfGiven (λ given. (call : Call) × (call_of (up_to_nul given) ≡ Some call)) link.given
+NamesCall link = OfGiven (λ given. (call : Call) × (call_of (up_to_nul given) ≡ Some call))
+    link.given
 
 -- ---- of the gates of a run
 
@@ -55,7 +57,8 @@ Begins handed start = IsAtRest handed start ⊎ IsTwinGate handed start
 -- these links came back to the gate in the run
 abbrev pub CameBack : {G In Out : Type 0} → gate_of.Ghosts G In Out → G → G → List Link → Type 0
 CameBack g handed gate links =
-    (start : Gating) × Begins (gating g handed) start × ((gating g gate).retired ≡ grown start.retired links)
+    (start : Gating) × Begins (gating g handed) start
+        × ((gating g gate).retired ≡ grown start.retired links)
 
 -- a link that had failed came back to the gate
 abbrev pub HasReturned : {G In Out : Type 0} → gate_of.Ghosts G In Out → G → G → Type 0

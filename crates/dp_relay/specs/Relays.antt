@@ -52,15 +52,16 @@ pub record AllBack {G In Out : Type 0} (g : gate_of.Ghosts G In Out) (handed : G
   pub own : IsItselfBack (gating g handed) (gating g last)
 
 -- the count of one of the gates rose; a twin's began with 0
-abbrev pub HasFailed : {G In Out : Type 0} (g : gate_of.Ghosts G In Out) (handed : G) (gates : List G)
+abbrev pub HasFailed : {G In Out : Type 0} (g : gate_of.Ghosts G In Out) (handed : G)
+    (gates : List G)
     → AllBack g handed gates → Type 0
 HasFailed g handed gates back =
     OneOf (λ twin. Rose 0 (g.faults twin)) back.twins ⊎ Rose (g.faults handed) (g.faults back.last)
 
 -- ---- the workers, where all was served
 
--- a worker: its gate before its first link, how many links it serves, what its clerk knew before and
--- after, and how it counted
+-- a worker: its gate before its first link, how many links it serves, what its clerk knew before
+-- and after, and how it counted
 pub record Worker (G : Type 0) : Type 0 where
   pub begun : G
   pub count : ℕ
@@ -88,7 +89,8 @@ pub record EnginesServed {H In Out : Type 0} (h : gate_of.Ghosts H In Out) (jour
   pub clerk : IsClerkOf journal w.before w.after
   pub first : Means
   pub last : Means
-  pub served : Steps ServedEngine w.count (engine_post w.before (gating h w.begun) first (tally 0 0 0 0))
+  pub served : Steps ServedEngine w.count
+      (engine_post w.before (gating h w.begun) first (tally 0 0 0 0))
       (engine_post w.after (gating h gate) last w.tally)
 
 -- what the clerks made in all
@@ -121,8 +123,8 @@ pub record AllWorked {G In Out : Type 0} (g : gate_of.Ghosts G In Out) (handed :
   pub links : links_in_all crew ≡ number
   pub served : AllZip serves crew gates
 
--- all were served: the journal has what the workers' clerks made and no other entry, and the numbers
--- are those of the journal and of the workers' tallies
+-- all were served: the journal has what the workers' clerks made and no other entry, and the
+-- numbers are those of the journal and of the workers' tallies
 pub record AllDone {G GIn GOut H HIn HOut : Type 0} (g : gate_of.Ghosts G GIn GOut)
     (h : gate_of.Ghosts H HIn HOut) (ides : G) (engines : H) (registrations sessions : ℕ)
     (gs : List G) (hs : List H) (s : Summary) (journal : List Entry) : Type 0 where
@@ -152,7 +154,7 @@ GateFailed g h ides engines dials gs hs =
     (back : AllBack g ides gs) × (doors : AllBack h engines hs)
     × (HasFailed g ides gs back ⊎ (HasFailed h engines hs doors ⊎ Rose dials.before dials.now))
 
--- by how it ended; after a want of memory gates may be missing
+-- by how it ended; once memory ran out gates may be missing
 abbrev pub Came : {G GIn GOut H HIn HOut : Type 0} → gate_of.Ghosts G GIn GOut
     → gate_of.Ghosts H HIn HOut → G → H → ℕ → ℕ → Faults → Faults → List G → List H
     → Result (Summary × List Entry) AllError → Type 0

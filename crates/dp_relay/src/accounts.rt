@@ -26,7 +26,9 @@ pub(crate) fn account_of<G: Drop, H: Drop>(
     alloc: Global,
     gates: usize,
 ) -> Result<Account<G, H>, Memory>
-    ensures room { IfOk result (λ account. HasRoom gates (vec_len account.ides) (vec_capacity account.ides) (vec_len account.engines) (vec_capacity account.engines)) }
+    ensures room
+        { IfOk result (λ account. HasRoom gates (vec_len account.ides) (vec_capacity account.ides)
+            (vec_len account.engines) (vec_capacity account.engines)) }
     ensures ides { IfOk result (λ account. account.ides.items ≡ []) }
     ensures engines { IfOk result (λ account. account.engines.items ≡ []) }
     ensures tally { IfOk result (λ account. account.tally ≡ tally 0 0 0 0) }
@@ -57,11 +59,14 @@ fn sum_of(one: Tally, other: Tally) -> Tally
 
 /// Takes back the gate of a task that is over.
 fn take_gate<G: Drop, H: Drop>(account: &mut Account<G, H>, closed: Closed<G, H>)
-    requires room { HasRoom 1 (vec_len account.old.ides) (vec_capacity account.old.ides) (vec_len account.old.engines) (vec_capacity account.old.engines) }
+    requires room { HasRoom 1 (vec_len account.old.ides) (vec_capacity account.old.ides) (vec_len account.old.engines)
+        (vec_capacity account.old.engines) }
     ensures gate { TookGate closed account.old account.new }
     ensures room { (more : ℕ)
-        → HasRoom (more + 1) (vec_len account.old.ides) (vec_capacity account.old.ides) (vec_len account.old.engines) (vec_capacity account.old.engines)
-        → HasRoom more (vec_len account.new.ides) (vec_capacity account.new.ides) (vec_len account.new.engines) (vec_capacity account.new.engines) }
+        → HasRoom (more + 1) (vec_len account.old.ides) (vec_capacity account.old.ides) (vec_len account.old.engines)
+            (vec_capacity account.old.engines)
+        → HasRoom more (vec_len account.new.ides) (vec_capacity account.new.ides) (vec_len account.new.engines)
+            (vec_capacity account.new.engines) }
     ensures gate_fault { account.new.gate_fault ≡ account.old.gate_fault }
     ensures no_thread { account.new.no_thread ≡ account.old.no_thread }
 {
@@ -79,11 +84,14 @@ fn take_port<G: Drop, H: Drop, D: Drop, P: Drop>(
     account: &mut Account<G, H>,
     port: Port<G, H, D, P>,
 )
-    requires room { HasRoom 1 (vec_len account.old.ides) (vec_capacity account.old.ides) (vec_len account.old.engines) (vec_capacity account.old.engines) }
+    requires room { HasRoom 1 (vec_len account.old.ides) (vec_capacity account.old.ides) (vec_len account.old.engines)
+        (vec_capacity account.old.engines) }
     ensures gate { TookPort port account.old account.new }
     ensures room { (more : ℕ)
-        → HasRoom (more + 1) (vec_len account.old.ides) (vec_capacity account.old.ides) (vec_len account.old.engines) (vec_capacity account.old.engines)
-        → HasRoom more (vec_len account.new.ides) (vec_capacity account.new.ides) (vec_len account.new.engines) (vec_capacity account.new.engines) }
+        → HasRoom (more + 1) (vec_len account.old.ides) (vec_capacity account.old.ides) (vec_len account.old.engines)
+            (vec_capacity account.old.engines)
+        → HasRoom more (vec_len account.new.ides) (vec_capacity account.new.ides) (vec_len account.new.engines)
+            (vec_capacity account.new.engines) }
     ensures tally { account.new.tally ≡ account.old.tally }
     ensures gate_fault { account.new.gate_fault ≡ account.old.gate_fault }
     ensures no_thread { account.new.no_thread ≡ account.old.no_thread }
@@ -107,13 +115,16 @@ pub(crate) fn take_back<'a, A: Ledger, B: Ledger, C: Ledger, G: Drop, H: Drop, D
 )
     requires desk { clerk.old.desk ≡ desk.now }
     requires own { MatchResult answer (λ over. OnOk over.over (over.clerk.desk ≡ desk.now)) (λ _. ⊤) }
-    requires room { HasRoom 1 (vec_len account.old.ides) (vec_capacity account.old.ides) (vec_len account.old.engines) (vec_capacity account.old.engines) }
+    requires room { HasRoom 1 (vec_len account.old.ides) (vec_capacity account.old.ides) (vec_len account.old.engines)
+        (vec_capacity account.old.engines) }
     ensures took { MatchResult answer.entry
         (λ over. TookOver over.closed over.clerk over.over clerk.old clerk.new account.old account.new)
         (λ task. TookUndone task.port clerk.old clerk.new account.old account.new) }
     ensures room { (more : ℕ)
-        → HasRoom (more + 1) (vec_len account.old.ides) (vec_capacity account.old.ides) (vec_len account.old.engines) (vec_capacity account.old.engines)
-        → HasRoom more (vec_len account.new.ides) (vec_capacity account.new.ides) (vec_len account.new.engines) (vec_capacity account.new.engines) }
+        → HasRoom (more + 1) (vec_len account.old.ides) (vec_capacity account.old.ides) (vec_len account.old.engines)
+            (vec_capacity account.old.engines)
+        → HasRoom more (vec_len account.new.ides) (vec_capacity account.new.ides) (vec_len account.new.engines)
+            (vec_capacity account.new.engines) }
     ensures desk { clerk.new.desk ≡ clerk.old.desk }
 {
     match answer {
@@ -155,7 +166,8 @@ pub(crate) fn gather<'a, A: Ledger, B: Ledger, C: Ledger, G: Drop, H: Drop, D: D
     requires desk { clerk.old.desk ≡ desk.now }
     requires own { Each (λ answer. MatchResult answer (λ over. OnOk over.over (over.clerk.desk ≡ desk.now)) (λ _. ⊤))
         answers.items }
-    requires room { HasRoom (length answers.items) (vec_len account.old.ides) (vec_capacity account.old.ides) (vec_len account.old.engines) (vec_capacity account.old.engines) }
+    requires room { HasRoom (length answers.items) (vec_len account.old.ides) (vec_capacity account.old.ides)
+        (vec_len account.old.engines) (vec_capacity account.old.engines) }
     ensures took { FoldsBoth (λ answer v w x y. MatchResult answer
         (λ over. TookOver over.closed over.clerk over.over v w x y)
         (λ task. TookUndone task.port v w x y))

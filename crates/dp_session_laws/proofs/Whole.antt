@@ -316,7 +316,11 @@ module _ (command id : Text) (p : length command ≤ 64) (q : length id ≤ 64) 
   continued_good : (mode : Continuation) (phase : Phase) → IsGood (continued command id mode phase state)
   continued_good mode Starting = record { news = tt; fits = tells (gone_on mode state); next = gone_usual mode }
   continued_good mode Break = record { news = tt; fits = tells (gone_on mode state); next = gone_usual mode }
-  continued_good mode Stopping = record { news = tt; fits = status_fits command id p q _ _ (omega arith) (omega arith); next = h }
+  continued_good mode Stopping = record {
+    news = tt;
+    fits = status_fits command id p q _ _ (omega arith) (omega arith);
+    next = h;
+  }
 
   told_good : (name : Text) → length name ≤ 1048576 → Fits (feature_answer command id name state)
   told_good name few =
@@ -339,11 +343,16 @@ module _ (command id : Text) (p : length command ≤ 64) (q : length id ≤ 64) 
       record { news = tt; fits = status_fits command id p q _ _ (omega arith) (omega arith); next = h }
   session_good (request.Redirect Stdout mode) few =
       record { news = tt; fits = success_fits command id p q true; next = record { small = h.small } }
-  session_good (request.Redirect Stderr mode) few = record { news = tt; fits = success_fits command id p q false; next = h }
+  session_good (request.Redirect Stderr mode) few = record {
+    news = tt;
+    fits = success_fits command id p q false;
+    next = h;
+  }
 
   -- a response to a breakpoint command
   breakpoint_known : (r : BreakpointRequest)
-      → HasMessage (packet.Response (breakpoint_response (resolves state.features) state.bundle command id state.breaks r))
+      → HasMessage (packet.Response (breakpoint_response (resolves state.features) state.bundle command id
+          state.breaks r))
   breakpoint_known (asked.Set set) = refl
   breakpoint_known (asked.One Get number) = refl
   breakpoint_known (asked.One Remove number) = refl

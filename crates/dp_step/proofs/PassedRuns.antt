@@ -80,7 +80,8 @@ module _ (lines : List ℕ) (no-frame : is_free lines 0 ≡ true) where
           let over : bound ≤ s.moments = grind (arith, nat_tests) in
           (0, and_then (At kind line s go) next, refl, (over, sym same.0, sym same.1))
 
-    pub gives : (r : Run A) → OnFree lines r → (a : A) (t : State) → drive (only_bounded bound) r ≡ Gives a t → Gave r a t
+    pub gives : (r : Run A) → OnFree lines r → (a : A) (t : State) → drive (only_bounded bound) r ≡ Gives a t
+        → Gave r a t
     unfolding and_then
     gives (Done b s) free a t e = let same : (b ≡ a) × (s ≡ t) = (cc, cc) in (0, λ i. next (same.0 i) (same.1 i))
     gives (Over o s) free a t e = absurd (cc)

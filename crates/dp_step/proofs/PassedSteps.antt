@@ -1,6 +1,5 @@
 -- A machine that passes moments goes past those of the program that it stands for.
-use Rattle.std.proofs.Common.{◌≡◌, ℕ, zero, suc, ◌+◌, ◌-◌, ◌<◌, ◌≤◌, List, [], ◌∷◌, length, Option, Some, None, refl, sym, ap, ◌∙◌, subst, arith}
-use Rattle.std.proofs.lemmas.Bool.{le-ltb}
+use Rattle.std.proofs.Common.{◌≡◌, ℕ, zero, suc, ◌+◌, ◌-◌, ◌<◌, ◌≤◌, List, length, Some, None, refl, sym, ap, ◌∙◌, subst, arith}
 use Rattle.std.proofs.lemmas.Option.{slice_get_within}
 use Rattle.std.specs.Prelude.{option_map, slice_get}
 use Rattle.dp_tree.specs.declared.bundle.Bundle.{Bundle}
@@ -23,7 +22,7 @@ use Rattle.dp_step.specs.declared.machine.Progress.TheVariants as progress
 use Rattle.dp_step.specs.Past.{ArePassed, GoesPast}
 use Rattle.dp_step.specs.Stands.{ComesTo, EndsWith, GoesOn, NoneAbove, StandsFor, rest_of, steps_of}
 use Rattle.dp_step.specs.inner.Moves.{Comes}
-use Rattle.dp_step.specs.inner.Passing.{Approaches, ComesBehind, Gets, IsOverBy, LeadsTo, Passes}
+use Rattle.dp_step.specs.inner.Passing.{ComesBehind, Gets, IsOverBy, LeadsTo, Passes}
 use Rattle.dp_step.proofs.Courses.{first-following, first-moment, goes_past, none-in-bound}
 use Rattle.dp_step.proofs.LastMoments.{past-all}
 use Rattle.dp_step.proofs.LeapLaws.{all-counted}

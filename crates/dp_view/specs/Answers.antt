@@ -1,6 +1,6 @@
 -- What a view answers: what a state shows, or the code of the error response. DBGp 1.0, "Error
 -- Codes": whether there is no such level of the stack, no such context, or no such property.
-use Rattle.std.specs.Prelude.{◌≡◌, Option, Some, None, Result, Ok, Err, IsOk, ⊤}
+use Rattle.std.specs.Prelude.{◌≡◌, Result, Ok, Err, IsOk, ⊤}
 use Rattle.dp_packet.specs.declared.error_codes.ErrorCode.{ErrorCode}
 use Rattle.dp_view.specs.declared.errors.ViewError.{ViewError}
 use Rattle.dp_view.specs.declared.errors.ViewError.TheVariants.{Code, Memory}
@@ -10,11 +10,6 @@ abbrev pub and_then : {A B : Type 0} → (A → Result B ErrorCode) → Result A
     → Result B ErrorCode
 and_then view (Ok a) = view a
 and_then view (Err code) = Err code
-
--- the code of a refusal
-abbrev pub code_in : {A : Type 0} → Result A ErrorCode → Option ErrorCode
-code_in (Ok a) = None
-code_in (Err code) = Some code
 
 -- A call is refused with the code that is asked for. Memory may run out only where something is
 -- shown.

@@ -23,7 +23,7 @@ use Rattle.dp_tree.specs.declared.bundle.Bundle.{Bundle}
 use Rattle.dp_tree.specs.declared.bundle.BundleFile.{BundleFile}
 use Rattle.dp_view.specs.declared.paging.Paging.{Paging}
 use Rattle.dp_view.specs.Answers.{and_then}
-pub use Rattle.dp_view.specs.Answers.{code_in}
+pub use Rattle.dp_packet.specs.Messages.{code_in}
 use Rattle.dp_view.specs.Named.{named_property, named_value}
 use Rattle.dp_view.specs.Places.{contexts}
 use Rattle.dp_view.specs.Properties.{context_at}

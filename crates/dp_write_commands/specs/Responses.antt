@@ -21,7 +21,7 @@ use Rattle.dp_value.specs.declared.value.Value.{Value}
 use Rattle.dp_value.specs.Value.{data_of}
 use Rattle.dp_view.specs.declared.paging.Paging.{Paging}
 use Rattle.dp_view.specs.Answers.{and_then}
-pub use Rattle.dp_view.specs.Answers.{code_in}
+pub use Rattle.dp_packet.specs.Messages.{code_in}
 use Rattle.dp_view.specs.Properties.{shown}
 use Rattle.dp_wire.specs.Frames.{packet_limit}
 use Rattle.dp_write_commands.specs.Requests.{requested_write}

@@ -28,7 +28,8 @@ use Rattle.dp_engine.specs.Session.{State}
 use Rattle.dp_engine.specs.States.{allows}
 
 -- a turn that tells this response behind these packets, and ends the session so
-pub record Tells (before : List Text) (response : Response) (ended : Option SessionEnd) (made : Made)
+pub record Tells (before : List Text) (response : Response) (ended : Option SessionEnd)
+    (made : Made)
     : Type 0 where
   pub before_it : option_to_list made.before ≡ before
   pub text : made.text ≡ response_text response

@@ -1,9 +1,3 @@
-use Rattle.std.proofs.Common.{◌≤◌, length, ap, sym, subst, codes, Some}
-use Rattle.dp_packet.specs.declared.packet.Notify.{Notify}
-use Rattle.dp_packet.specs.declared.packet.Packet.TheVariants as packet
-use Rattle.dp_packet.specs.declared.packet.BreakLine.{BreakLine}
-use Rattle.dp_packet.specs.Text.{text}
-use Rattle.dp_wire.specs.Frames.{packet_limit}
 use Rattle.dp_breakpoint_commands.specs.Lines.{breakpoint_line}
 use Rattle.dp_breakpoint_commands.proofs.Shown.{notice_fits, shown_short}
 use Rattle.dp_breakpoint_commands.proofs.notices.resolved_notice.Goals as goal

@@ -16,27 +16,32 @@ pub returns-then-branch-clause-reached : goal.returns-then-branch-clause-reached
 unfolding past-by
 returns-then-branch-clause-reached g c = λ bound writes n stands.
     let way = c.loop.invariant bound writes n stands in
-    let goes = rw c.in-At.is at (c.in_ok-moment.ensures c.args.depth c.args.bundle.now bound writes way.at way.stands) in
+    let goes = rw c.in-At.is at
+        (c.in_ok-moment.ensures c.args.depth c.args.bundle.now bound writes way.at way.stands) in
     let past = past-by _ _ _ _ _ _ _ _ _ _ way _ c.go_on.new.machine _ goes in
     let pass = c.in_ok-pass-in-At.ensures in
-    reaches _ _ _ _ _ _ _ _ _ past c.in-At.moment c.go_on.new.machine goes.goes_on _ goes.counted c.state.result.now c.state.ensures
+    reaches _ _ _ _ _ _ _ _ _ past c.in-At.moment c.go_on.new.machine goes.goes_on _ goes.counted c.state.result.now
+        c.state.ensures
     c.pass.new.breaks pass.breaks _ pass.stop c.if-branch.true
 
 pub returns-then-branch-clause-breaks : goal.returns-then-branch-clause-breaks
 unfolding past-by
 returns-then-branch-clause-breaks g c = λ bound writes n stands.
     let way = c.loop.invariant bound writes n stands in
-    let goes = rw c.in-At.is at (c.in_ok-moment.ensures c.args.depth c.args.bundle.now bound writes way.at way.stands) in
+    let goes = rw c.in-At.is at
+        (c.in_ok-moment.ensures c.args.depth c.args.bundle.now bound writes way.at way.stands) in
     let past = past-by _ _ _ _ _ _ _ _ _ _ way _ c.go_on.new.machine _ goes in
     let pass = c.in_ok-pass-in-At.ensures in
-    reaches-with _ _ _ _ _ _ _ _ _ past c.in-At.moment c.go_on.new.machine goes.goes_on _ goes.counted c.state.result.now c.state.ensures
+    reaches-with _ _ _ _ _ _ _ _ _ past c.in-At.moment c.go_on.new.machine goes.goes_on _ goes.counted
+        c.state.result.now c.state.ensures
     c.pass.new.breaks pass.breaks _ pass.stop c.if-branch.true
 
 pub returns-then-branch-clause-of : goal.returns-then-branch-clause-of
 unfolding past-by
 returns-then-branch-clause-of g c = λ bound writes n stands.
     let way = c.loop.invariant bound writes n stands in
-    let goes = rw c.in-At.is at (c.in_ok-moment.ensures c.args.depth c.args.bundle.now bound writes way.at way.stands) in
+    let goes = rw c.in-At.is at
+        (c.in_ok-moment.ensures c.args.depth c.args.bundle.now bound writes way.at way.stands) in
     let past = past-by _ _ _ _ _ _ _ _ _ _ way _ c.go_on.new.machine _ goes in
     reaches-of _ _ _ _ _ _ _ _ _ past c.in-At.moment c.go_on.new.machine goes.goes_on _ goes.counted
 
@@ -44,7 +49,8 @@ pub returns-then-branch-clause-counted : goal.returns-then-branch-clause-counted
 unfolding past-by
 returns-then-branch-clause-counted g c = λ bound writes n stands.
     let way = c.loop.invariant bound writes n stands in
-    let goes = rw c.in-At.is at (c.in_ok-moment.ensures c.args.depth c.args.bundle.now bound writes way.at way.stands) in
+    let goes = rw c.in-At.is at
+        (c.in_ok-moment.ensures c.args.depth c.args.bundle.now bound writes way.at way.stands) in
     let past = past-by _ _ _ _ _ _ _ _ _ _ way _ c.go_on.new.machine _ goes in
     counts-moment _ _ _ _ _ _ _ _ _ past c.in-At.moment c.go_on.new.machine goes.goes_on _ goes.counted
 
@@ -52,17 +58,20 @@ pub loop-preserved : goal.loop-preserved
 unfolding past-by
 loop-preserved g c = λ bound writes n stands.
     let way = c.loop.invariant bound writes n stands in
-    let goes = rw c.in-At.is at (c.in_ok-moment.ensures c.args.depth c.args.bundle.now bound writes way.at way.stands) in
+    let goes = rw c.in-At.is at
+        (c.in_ok-moment.ensures c.args.depth c.args.bundle.now bound writes way.at way.stands) in
     let past = past-by _ _ _ _ _ _ _ _ _ _ way _ c.go_on.new.machine _ goes in
     let pass = c.in_ok-pass-in-At.ensures in
-    passes _ _ _ _ _ _ _ _ _ past c.in-At.moment c.go_on.new.machine goes.goes_on _ goes.counted c.state.result.now c.state.ensures
+    passes _ _ _ _ _ _ _ _ _ past c.in-At.moment c.go_on.new.machine goes.goes_on _ goes.counted c.state.result.now
+        c.state.ensures
     c.pass.new.breaks pass.breaks _ pass.stop c.if-branch.false
 
 pub returns-in-Ended-clause-reached : goal.returns-in-Ended-clause-reached
 unfolding past-by
 returns-in-Ended-clause-reached g c = λ bound writes n stands.
     let way = c.loop.invariant bound writes n stands in
-    let goes = rw c.in-Ended.is at (c.in_ok-moment.ensures c.args.depth c.args.bundle.now bound writes way.at way.stands) in
+    let goes = rw c.in-Ended.is at
+        (c.in_ok-moment.ensures c.args.depth c.args.bundle.now bound writes way.at way.stands) in
     let past = past-by _ _ _ _ _ _ _ _ _ _ way _ c.go_on.new.machine _ goes in
     ends-there _ _ _ _ _ _ _ _ _ past c.in-Ended.outcome c.go_on.new.machine goes.goes_on
 
@@ -70,7 +79,8 @@ pub returns-in-Ended-clause-breaks : goal.returns-in-Ended-clause-breaks
 unfolding past-by
 returns-in-Ended-clause-breaks g c = λ bound writes n stands.
     let way = c.loop.invariant bound writes n stands in
-    let goes = rw c.in-Ended.is at (c.in_ok-moment.ensures c.args.depth c.args.bundle.now bound writes way.at way.stands) in
+    let goes = rw c.in-Ended.is at
+        (c.in_ok-moment.ensures c.args.depth c.args.bundle.now bound writes way.at way.stands) in
     let past = past-by _ _ _ _ _ _ _ _ _ _ way _ c.go_on.new.machine _ goes in
     ends-with _ _ _ _ _ _ _ _ _ past c.in-Ended.outcome c.go_on.new.machine goes.goes_on
 
@@ -78,7 +88,8 @@ pub returns-in-Ended-clause-of : goal.returns-in-Ended-clause-of
 unfolding past-by
 returns-in-Ended-clause-of g c = λ bound writes n stands.
     let way = c.loop.invariant bound writes n stands in
-    let goes = rw c.in-Ended.is at (c.in_ok-moment.ensures c.args.depth c.args.bundle.now bound writes way.at way.stands) in
+    let goes = rw c.in-Ended.is at
+        (c.in_ok-moment.ensures c.args.depth c.args.bundle.now bound writes way.at way.stands) in
     let past = past-by _ _ _ _ _ _ _ _ _ _ way _ c.go_on.new.machine _ goes in
     ends-of _ _ _ _ _ _ _ _ _ past c.in-Ended.outcome c.go_on.new.machine goes.goes_on
 
@@ -86,6 +97,7 @@ pub returns-in-Ended-clause-counted : goal.returns-in-Ended-clause-counted
 unfolding past-by
 returns-in-Ended-clause-counted g c = λ bound writes n stands.
     let way = c.loop.invariant bound writes n stands in
-    let goes = rw c.in-Ended.is at (c.in_ok-moment.ensures c.args.depth c.args.bundle.now bound writes way.at way.stands) in
+    let goes = rw c.in-Ended.is at
+        (c.in_ok-moment.ensures c.args.depth c.args.bundle.now bound writes way.at way.stands) in
     let past = past-by _ _ _ _ _ _ _ _ _ _ way _ c.go_on.new.machine _ goes in
     counts-end _ _ _ _ _ _ _ _ _ past c.in-Ended.outcome c.go_on.new.machine goes.goes_on _ goes.counted

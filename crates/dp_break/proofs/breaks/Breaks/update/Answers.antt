@@ -1,10 +1,11 @@
-use Rattle.std.proofs.Common.{◌≡◌, ◌==◌, List, length, set, sym, ap, subst, ◌∙◌, arith, Option, Bool}
-use Rattle.std.specs.Prelude.{position, Err, Ok}
+use Rattle.std.proofs.Common.{◌≡◌, ◌==◌, List, length, set, sym, ap, subst, ◌∙◌, arith}
+use Rattle.std.specs.Prelude.{position, Err}
 use Rattle.std.proofs.lemmas.List.{length-set}
 use Rattle.dp_break.specs.declared.breakpoint.Breakpoint.{Breakpoint}
 use Rattle.dp_break.specs.declared.errors.BreakError.TheVariants as error
 use Rattle.dp_break.specs.Changes.{changed, changed_to, held_as, with_change}
-use Rattle.dp_break.specs.Lines.{code_in, line_in}
+use Rattle.dp_packet.specs.Messages.{code_in}
+use Rattle.dp_break.specs.Lines.{line_in}
 use Rattle.dp_break.specs.Refusals.{answer_of, change_refusal, update_refusal}
 use Rattle.dp_break.specs.Tables.{IsTable, Table}
 use Rattle.dp_break.proofs.TableLaws.{table}

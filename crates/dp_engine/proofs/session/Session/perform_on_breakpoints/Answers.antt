@@ -17,6 +17,7 @@ returns-in-Ok-answer_breakpoints-clause-turn c =
     c.args.to.now.command c.args.to.now.id c.args.request c.in-Ok-answer_breakpoints.answered.notice
     c.in-Ok-answer_breakpoints.answered.response c.tell_behind.result
     (c.in-Ok.ensures.state ∙ ap program_of (sym c.self.view_is)) c.file-file.ensures
-    (rw c.wishes-wishes.ensures at c.in-Ok-answer_breakpoints.ensures.accepted) (rw c.wishes-wishes.ensures at c.in-Ok-answer_breakpoints.ensures.notice)
+    (rw c.wishes-wishes.ensures at c.in-Ok-answer_breakpoints.ensures.accepted)
+        (rw c.wishes-wishes.ensures at c.in-Ok-answer_breakpoints.ensures.notice)
     (rw c.wishes-wishes.ensures at c.in-Ok-answer_breakpoints.ensures.response) c.in-Ok-answer_breakpoints.ensures.short
     (rw c.wishes-wishes.ensures at c.in-Ok-answer_breakpoints.ensures.table) c.tell_behind.ensures)
