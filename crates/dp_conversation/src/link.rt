@@ -223,8 +223,9 @@ fn exchange<A: Responder, S: Source, K: Sink, E: Sink>(
 }
 
 /// Sends the first packet of a session and answers each command that comes, until the session is over or a fault of a
-/// sink cuts it short. It waits in the calls of the link alone. The session is handed back with how it ended; nothing
-/// is read behind the piece in which a command ended it, and once memory ran out it has failed for good.
+/// sink cuts it short. It waits in the calls of the link alone. What was read ends with one piece of at most 8,192
+/// bytes, before which no command had ended the session. The session is handed back with how it ended; unless memory
+/// ran out it knows what the commands that were obeyed lead to.
 pub fn converse<A: Responder + Drop, S: Source, K: Sink, E: Sink>(
     alloc: Global,
     session: A,
