@@ -200,6 +200,10 @@ impl<'r, R: Sockets<Listener = TcpListener, Stream = TcpStream> + Sync> Dialer f
 
     ghost retired = { λ _. None };
 
+    ghost asked_gates = { λ _. None };
+
+    ghost shut_doors = { λ _. None };
+
     fn dial(&mut self, host: &Host, port: u16) -> Result<(TcpSource, TcpSink), Failed> {
         let link = connect(self.rt, host, port);
         if link.is_err() {
@@ -232,10 +236,6 @@ fn listen<R: Sockets<Listener = TcpListener, Stream = TcpStream>>(
 
 impl<'r, R: Sockets<Listener = TcpListener, Stream = TcpStream> + Sync> Net for TcpNet<'r, R> {
     type Door = TcpGate;
-
-    ghost asked_gates = { λ _. None };
-
-    ghost shut_doors = { λ _. None };
 
     fn gate(&mut self, port: u16) -> Result<TcpGate, Failed> {
         let Ok(listener) = listen(self.rt, port) else {

@@ -103,7 +103,12 @@ pub record GateState : Type 0 where
 -- what a gate tells
 abbrev pub door_seen : GateState → Door
 door_seen gate =
-    record { port = gate.port; accepted = Some gate.accepted; retired = Some gate.retired }
+    record {
+      port = gate.port;
+      accepts = Some gate.accepts;
+      accepted = Some gate.accepted;
+      retired = Some gate.retired;
+    }
 
 -- nothing has failed, nothing came back that had, and nothing was asked for, given or came back
 pub record IsFreshGate (gate : GateState) : Type 0 where

@@ -184,6 +184,10 @@ impl Dialer for ListDialer {
 
     ghost retired = { λ d. Some d.retired };
 
+    ghost asked_gates = { λ _. None };
+
+    ghost shut_doors = { λ _. None };
+
     fn dial(&mut self, host: &Host, port: u16) -> Result<(ByteSource, ByteSink), Failed>
         ensures source { IfOk result (λ link. link.0.plan.faults ≡ 0) }
         ensures sink { IfOk result (λ link. link.1.plan.faults ≡ 0) }

@@ -176,6 +176,10 @@ impl Dialer for ListNet {
 
     ghost retired = { λ n. Some n.dialer.retired };
 
+    ghost asked_gates = { λ n. Some n.asked_gates };
+
+    ghost shut_doors = { λ n. Some n.shut_doors };
+
     fn dial(&mut self, host: &Host, port: u16) -> Result<(ByteSource, ByteSink), Failed>
         ensures source { IfOk result (λ link. link.0.plan.faults ≡ 0) }
         ensures sink { IfOk result (λ link. link.1.plan.faults ≡ 0) }
@@ -224,6 +228,8 @@ impl Dialer for ListNet {
         ensures fresh_returned { IfOk result (λ twin. twin.dialer.returned ≡ 0) }
         ensures fresh_dials { IfOk result (λ twin. twin.dialer.dials ≡ []) }
         ensures fresh_retired { IfOk result (λ twin. twin.dialer.retired ≡ []) }
+        ensures fresh_requested { IfOk result (λ twin. twin.asked_gates ≡ []) }
+        ensures fresh_shut { IfOk result (λ twin. twin.shut_doors ≡ []) }
         ensures cause { HasCause self.old.dialer.plan.faults self.new.dialer.plan.faults result }
         ensures after { self.new.dialer ≡ record self.old.dialer {
           plan = after_call self.old.dialer.plan (is_err result);
@@ -246,10 +252,6 @@ impl Dialer for ListNet {
 
 impl Net for ListNet {
     type Door = ListGate;
-
-    ghost asked_gates = { λ n. Some n.asked_gates };
-
-    ghost shut_doors = { λ n. Some n.shut_doors };
 
     fn gate(&mut self, port: u16) -> Result<ListGate, Failed>
         ensures fresh { IfOk result (λ door. door.plan.faults ≡ 0) }

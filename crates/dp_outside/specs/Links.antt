@@ -1,6 +1,6 @@
 -- Links to other machines, and gates, by what the objects that make them tell. An object may tell
 -- nothing.
-use Rattle.std.specs.Prelude.{◌≡◌, ℕ, zero, suc, List, Result, Ok, Err, None, Some}
+use Rattle.std.specs.Prelude.{◌≡◌, ℕ, zero, suc, Bool, List, Result, Ok, Err, None, Some}
 use Rattle.std.specs.declared.option.Option.{Option}
 use Rattle.dp_outside.specs.Causes.{Rose}
 use Rattle.dp_outside.specs.declared.sinks.Sink as sink_of
@@ -28,10 +28,12 @@ pub record Dial : Type 0 where
   pub port : ℕ
   pub made : Option Link
 
--- a gate that was shut: its port, the links that it had given as they reported when they were
--- given, and those that had come back as they reported then
+-- a gate that was shut: its port, whether it had given a link each time that it was asked for one,
+-- the links that it had given as they reported when they were given, and those that had come back
+-- as they reported then
 pub record Door : Type 0 where
   pub port : ℕ
+  pub accepts : Option (List Bool)
   pub accepted : Option (List Link)
   pub retired : Option (List Link)
 

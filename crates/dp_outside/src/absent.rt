@@ -51,6 +51,10 @@ impl Dialer for NoNet {
 
     ghost retired = { λ _. None };
 
+    ghost asked_gates = { λ _. None };
+
+    ghost shut_doors = { λ _. None };
+
     fn dial(&mut self, _host: &Host, _port: u16) -> Result<(SureByteSource, SureByteSink), Failed>
         ensures cause { HasCause self.old.0 self.new.0 result }
         ensures returned { self.new.1 ≡ self.old.1 }
@@ -78,10 +82,6 @@ impl Dialer for NoNet {
 
 impl Net for NoNet {
     type Door = NoGate;
-
-    ghost asked_gates = { λ _. None };
-
-    ghost shut_doors = { λ _. None };
 
     fn gate(&mut self, _port: u16) -> Result<NoGate, Failed>
         ensures cause { HasCause self.old.0 self.new.0 result }

@@ -26,6 +26,13 @@ pub trait Dialer: Sized + Send + Drop {
     /// The links that came back so far, in order, as they reported then, where it tells that.
     ghost retired: { Self → Option (List Link) };
 
+    /// The gates that it was asked for so far, in order: the port of each, and whether it was opened, where it can
+    /// open some and tells that.
+    ghost asked_gates: { Self → Option (List (ℕ × Bool)) };
+
+    /// The gates that were shut so far, in order, as they reported then, where it can open some and tells that.
+    ghost shut_doors: { Self → Option (List Door) };
+
     /// Makes a link. Its counts of faults begin with 0, and its source has given nothing. It may wait.
     fn dial(&mut self, host: &Host, port: u16) -> Result<(Self::In, Self::Out), Failed>
         ensures source { IfOk result (λ link. Self.In.faults link.0 ≡ 0) }
@@ -38,7 +45,9 @@ pub trait Dialer: Sized + Send + Drop {
           made = made (λ two. link Self.In.Source Self.Out.Sink two.0 two.1) result;
         } ∷ []) }
         ensures returned { returned self.new ≡ returned self.old }
-        ensures retired { retired self.new ≡ retired self.old };
+        ensures retired { retired self.new ≡ retired self.old }
+        ensures requested { asked_gates self.new ≡ asked_gates self.old }
+        ensures shut { shut_doors self.new ≡ shut_doors self.old };
 
     /// Takes back a link. It cannot fail.
     fn retire(&mut self, source: Self::In, sink: Self::Out)
@@ -48,7 +57,9 @@ pub trait Dialer: Sized + Send + Drop {
         ensures later { returned self.old ≤ returned self.new }
         ensures dials { dials self.new ≡ dials self.old }
         ensures retired { retired self.new
-            ≡ grown (retired self.old) (link Self.In.Source Self.Out.Sink source sink ∷ []) };
+            ≡ grown (retired self.old) (link Self.In.Source Self.Out.Sink source sink ∷ []) }
+        ensures requested { asked_gates self.new ≡ asked_gates self.old }
+        ensures shut { shut_doors self.new ≡ shut_doors self.old };
 
     /// A second dialer beside this one. Its counts begin with 0, and what it tells with nothing.
     fn twin(&mut self) -> Result<Self, Failed>
@@ -56,10 +67,14 @@ pub trait Dialer: Sized + Send + Drop {
         ensures fresh_returned { IfOk result (λ twin. returned twin ≡ 0) }
         ensures fresh_dials { IfOk result (λ twin. BeginsEmpty (dials twin)) }
         ensures fresh_retired { IfOk result (λ twin. BeginsEmpty (retired twin)) }
+        ensures fresh_requested { IfOk result (λ twin. BeginsEmpty (asked_gates twin)) }
+        ensures fresh_shut { IfOk result (λ twin. BeginsEmpty (shut_doors twin)) }
         ensures cause { HasCause (faults self.old) (faults self.new) result }
         ensures returned { returned self.new ≡ returned self.old }
         ensures dials { dials self.new ≡ dials self.old }
-        ensures retired { retired self.new ≡ retired self.old };
+        ensures retired { retired self.new ≡ retired self.old }
+        ensures requested { asked_gates self.new ≡ asked_gates self.old }
+        ensures shut { shut_doors self.new ≡ shut_doors self.old };
 }
 
 /// What gives the links that other machines make.
@@ -132,13 +147,6 @@ pub trait Gate: Sized + Send + Drop {
 pub trait Net: Dialer {
     type Door: Gate + Drop;
 
-    /// The gates that it was asked for so far, in order: the port of each, and whether it was opened, where it tells
-    /// that.
-    ghost asked_gates: { Self → Option (List (ℕ × Bool)) };
-
-    /// The gates that were shut so far, in order, as they reported then, where it tells that.
-    ghost shut_doors: { Self → Option (List Door) };
-
     /// Opens a gate at a port. Its counts begin with 0, and what it tells with nothing.
     fn gate(&mut self, port: u16) -> Result<Self::Door, Failed>
         ensures fresh { IfOk result (λ door. Self.Door.faults door ≡ 0) }
@@ -151,8 +159,8 @@ pub trait Net: Dialer {
         ensures returned { Self.returned self.new ≡ Self.returned self.old }
         ensures dials { Self.dials self.new ≡ Self.dials self.old }
         ensures retired { Self.retired self.new ≡ Self.retired self.old }
-        ensures requested { asked_gates self.new ≡ grown (asked_gates self.old) ((port, is_ok result) ∷ []) }
-        ensures shut { shut_doors self.new ≡ shut_doors self.old };
+        ensures requested { Self.asked_gates self.new ≡ grown (Self.asked_gates self.old) ((port, is_ok result) ∷ []) }
+        ensures shut { Self.shut_doors self.new ≡ Self.shut_doors self.old };
 
     /// Takes back a gate. It cannot fail.
     fn shut(&mut self, door: Self::Door)
@@ -162,9 +170,10 @@ pub trait Net: Dialer {
         ensures later { Self.returned self.old ≤ Self.returned self.new }
         ensures dials { Self.dials self.new ≡ Self.dials self.old }
         ensures retired { Self.retired self.new ≡ Self.retired self.old }
-        ensures requested { asked_gates self.new ≡ asked_gates self.old }
-        ensures shut { shut_doors self.new ≡ grown (shut_doors self.old) (record {
+        ensures requested { Self.asked_gates self.new ≡ Self.asked_gates self.old }
+        ensures shut { Self.shut_doors self.new ≡ grown (Self.shut_doors self.old) (record {
           port = Self.Door.port door;
+          accepts = Self.Door.accepts door;
           accepted = Self.Door.accepted door;
           retired = Self.Door.retired door;
         } ∷ []) };

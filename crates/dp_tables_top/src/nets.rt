@@ -73,6 +73,10 @@ impl Dialer for OneNet {
 
     ghost retired = { λ _. None };
 
+    ghost asked_gates = { λ _. None };
+
+    ghost shut_doors = { λ _. None };
+
     fn dial(&mut self, _host: &Host, _port: u16) -> Result<(ByteSource, ByteSink), Failed>
         ensures source { IfOk result (λ link. link.0.plan.faults ≡ 0) }
         ensures sink { IfOk result (λ link. link.1.plan.faults ≡ 0) }
@@ -114,10 +118,6 @@ impl Dialer for OneNet {
 
 impl Net for OneNet {
     type Door = OneGate;
-
-    ghost asked_gates = { λ _. None };
-
-    ghost shut_doors = { λ _. None };
 
     fn gate(&mut self, port: u16) -> Result<OneGate, Failed>
         ensures fresh { IfOk result (λ door. door.faults ≡ 0) }

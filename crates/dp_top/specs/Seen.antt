@@ -37,27 +37,25 @@ pub record Seen : Type 0 where
   pub err : Stream
   pub net : Net
 
-abbrev pub net_seen : {N In Out : Type 0} → dialer_of.Ghosts N In Out
-    → (N → Option (List (ℕ × Bool))) → (N → Option (List Door)) → N → Net
-net_seen d requested shut net = record {
+abbrev pub net_seen : {N In Out : Type 0} → dialer_of.Ghosts N In Out → N → Net
+net_seen d net = record {
   dials = d.dials net;
   retired = d.retired net;
-  requested = requested net;
-  shut = shut net;
+  requested = d.asked_gates net;
+  shut = d.shut_doors net;
   faults = d.faults net;
   returned = d.returned net;
 }
 
 abbrev pub seen : {H S K E N In Out : Type 0}
     → shelf_of.Ghosts H → source_of.Ghosts S → sink_of.Ghosts K → sink_of.Ghosts E
-    → dialer_of.Ghosts N In Out → (N → Option (List (ℕ × Bool))) → (N → Option (List Door))
-    → H → S → K → E → N → Seen
-seen h s k e d requested shut shelf input out err net = record {
+    → dialer_of.Ghosts N In Out → H → S → K → E → N → Seen
+seen h s k e d shelf input out err net = record {
   shelf = record { files = h.files shelf; fetched = h.fetched shelf; faults = h.faults shelf };
   input = record { told = s.left input; faults = s.faults input };
   out = record { told = k.taken out; faults = k.faults out };
   err = record { told = e.taken err; faults = e.faults err };
-  net = net_seen d requested shut net;
+  net = net_seen d net;
 }
 
 -- what became of a source or a sink

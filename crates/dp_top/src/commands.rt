@@ -109,9 +109,9 @@ pub(crate) fn carry_out_on<'a, R: Wait + Sync, H: Shelf, S: Source, K: Sink, E: 
 ) -> Result<u8, Refused<'a>>
     requires invocation { (words : List (List ℕ)) × IsInvocation words (task_of command) }
 
-    ensures carried { let before = seen H.Shelf S.Source K.Sink E.Sink N.Dialer N.asked_gates N.shut_doors
+    ensures carried { let before = seen H.Shelf S.Source K.Sink E.Sink N.Dialer
         shelf.old input.old out.old err.old net.old in
-        let after = seen H.Shelf S.Source K.Sink E.Sink N.Dialer N.asked_gates N.shut_doors
+        let after = seen H.Shelf S.Source K.Sink E.Sink N.Dialer
         shelf.new input.new out.new err.new net.new in
         IsCarriedOut result (task_of command.entry) before after }
 {

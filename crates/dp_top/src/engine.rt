@@ -39,12 +39,12 @@ fn serve_linked<'a, N: Net, K: Sink>(
     ensures ends { MatchResult result
         (λ status. EngagedSo status bundle.now (address_seen request.entry.address) request.entry.talk.key.now
         (invocation_seen request.entry.talk.program)
-        (change K.taken K.faults out.old out.new) (net_seen N.Dialer N.asked_gates N.shut_doors net.old)
-        (net_seen N.Dialer N.asked_gates N.shut_doors net.new))
+        (change K.taken K.faults out.old out.new) (net_seen N.Dialer net.old)
+        (net_seen N.Dialer net.new))
         (λ why. UnengagedSo why.failure why.name.now bundle.now
         (address_seen request.entry.address) request.entry.talk.key.now (invocation_seen request.entry.talk.program)
-        (change K.taken K.faults out.old out.new) (net_seen N.Dialer N.asked_gates N.shut_doors net.old)
-        (net_seen N.Dialer N.asked_gates N.shut_doors net.new)) }
+        (change K.taken K.faults out.old out.new) (net_seen N.Dialer net.old)
+        (net_seen N.Dialer net.new)) }
     ensures status { IfOk result (λ status. status ≤ exit_limit) }
     ensures held { (made : Made) (before after : ℕ) → IsComplete (Ok made) result before after }
     ensures out_later { K.faults out.old ≤ K.faults out.new }
@@ -86,12 +86,12 @@ fn serve_over<'a, N: Net, K: Sink>(
     ensures ends { MatchResult result
         (λ status. EngagedSo status bundle.now (address_seen request.entry.address) request.entry.talk.key.now
         (invocation_seen request.entry.talk.program)
-        (change K.taken K.faults out.old out.new) (net_seen N.Dialer N.asked_gates N.shut_doors net.old)
-        (net_seen N.Dialer N.asked_gates N.shut_doors net.new))
+        (change K.taken K.faults out.old out.new) (net_seen N.Dialer net.old)
+        (net_seen N.Dialer net.new))
         (λ why. UnengagedSo why.failure why.name.now bundle.now
         (address_seen request.entry.address) request.entry.talk.key.now (invocation_seen request.entry.talk.program)
-        (change K.taken K.faults out.old out.new) (net_seen N.Dialer N.asked_gates N.shut_doors net.old)
-        (net_seen N.Dialer N.asked_gates N.shut_doors net.new)) }
+        (change K.taken K.faults out.old out.new) (net_seen N.Dialer net.old)
+        (net_seen N.Dialer net.new)) }
     ensures status { IfOk result (λ status. status ≤ exit_limit) }
     ensures held { (made : Made) (before after : ℕ) → IsComplete (Ok made) result before after }
     ensures out_later { K.faults out.old ≤ K.faults out.new }

@@ -118,7 +118,7 @@ fn play_at<R: Wait + Sync, N: Net, O: Sink>(
     out: &mut O,
 ) -> Option<Result<(), IdeError>>
     ensures gated { GatedSo result port script.now (change O.taken O.faults out.old out.new)
-        (net_seen N.Dialer N.asked_gates N.shut_doors net.old) (net_seen N.Dialer N.asked_gates N.shut_doors net.new) }
+        (net_seen N.Dialer net.old) (net_seen N.Dialer net.new) }
     ensures out_later { O.faults out.old ≤ O.faults out.new }
     ensures net_later { N.faults net.old ≤ N.faults net.new }
     ensures returned_later { N.returned net.old ≤ N.returned net.new }

@@ -24,7 +24,7 @@ impl<'h, 's, 'k, 'e, 'n, H: Shelf, S: Source, K: Sink, E: Sink, N: Net> Model
 
     ghost view = { λ o. record {
       seen =
-          seen H.Shelf S.Source K.Sink E.Sink N.Dialer N.asked_gates N.shut_doors
+          seen H.Shelf S.Source K.Sink E.Sink N.Dialer
           o.shelf.now o.input.now o.out.now o.err.now o.net.now;
       names = record {
         shelf = o.shelf.ghost_name;

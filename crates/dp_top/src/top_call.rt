@@ -53,9 +53,9 @@ pub fn top<R: Wait + Sync, H: Shelf, S: Source, K: Sink, E: Sink, N: Net, P: Spa
     net: &mut N,
     spawner: &mut P,
 ) -> u8
-    ensures answers { let before = seen H.Shelf S.Source K.Sink E.Sink N.Dialer N.asked_gates N.shut_doors
+    ensures answers { let before = seen H.Shelf S.Source K.Sink E.Sink N.Dialer
         shelf.old input.old out.old err.old net.old in
-        let after = seen H.Shelf S.Source K.Sink E.Sink N.Dialer N.asked_gates N.shut_doors
+        let after = seen H.Shelf S.Source K.Sink E.Sink N.Dialer
         shelf.new input.new out.new err.new net.new in
         Answers result (map string_bytes words.now) before after }
     // No command uses the spawner.

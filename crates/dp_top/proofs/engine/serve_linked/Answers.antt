@@ -24,9 +24,9 @@ returns-in-Ok-clause-ends g c =
     served_over c.args.bundle.now (address_seen c.args.request.address) c.args.request.talk.key.now
     (invocation_seen c.args.request.talk.program) _ _ _ _ _
     (taken_back (address_seen c.args.request.address) c.args.host.now given back _ _ _ _
-    (net_seen g.N.Dialer g.N.Net.asked_gates g.N.Net.shut_doors c.args.net.now)
-    (net_seen g.N.Dialer g.N.Net.asked_gates g.N.Net.shut_doors c.dial.new.self)
-    (net_seen g.N.Dialer g.N.Net.asked_gates g.N.Net.shut_doors c.retire.new.self)
+    (net_seen g.N.Dialer c.args.net.now)
+    (net_seen g.N.Dialer c.dial.new.self)
+    (net_seen g.N.Dialer c.retire.new.self)
     c.requires.host c.in-Ok.ensures.source c.in-Ok.ensures.sink
     c.in-Ok.ensures.dials c.dial.ensures.retired c.dial.ensures.cause.later c.dial.ensures.returned
     c.retire.ensures.dials c.retire.ensures.retired c.retire.ensures.faults

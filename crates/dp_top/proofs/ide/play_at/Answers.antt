@@ -14,9 +14,9 @@ returns-in-Ok-clause-gated g c =
       returned = g.N.Door.Gate.returned c.meet-end.new.door;
     } in
     gated_so c.args.port (g.N.Door.Gate.port c.meet-end.new.door) door
-    (net_seen g.N.Dialer g.N.Net.asked_gates g.N.Net.shut_doors c.args.net.now)
-    (net_seen g.N.Dialer g.N.Net.asked_gates g.N.Net.shut_doors c.gate.new.self)
-    (net_seen g.N.Dialer g.N.Net.asked_gates g.N.Net.shut_doors c.shut.new.self)
+    (net_seen g.N.Dialer c.args.net.now)
+    (net_seen g.N.Dialer c.gate.new.self)
+    (net_seen g.N.Dialer c.shut.new.self)
     (c.meet-end.ensures.port ∙ c.in-Ok.ensures.port)
     c.gate.ensures.dials c.gate.ensures.retired c.in-Ok.ensures.requested c.gate.ensures.shut
     c.gate.ensures.returned c.gate.ensures.cause.later c.shut.ensures.dials c.shut.ensures.retired
