@@ -170,12 +170,15 @@ Came g h ides engines registrations sessions dials starts gs hs (Err Memory) = �
 abbrev pub IsSamePort : {G In Out : Type 0} → gate_of.Ghosts G In Out → G → G → Type 0
 IsSamePort g handed gate = g.port gate ≡ g.port handed
 
--- the dialer took no link back and was asked for none; its twins were
+-- the dialer took no link back and was asked for none; its twins were. Where it can open gates, it
+-- opened none and shut none.
 pub record IsUndialed {D In Out : Type 0} (d : dialer_of.Ghosts D In Out) (a b : D) : Type 0 where
   pub later : d.faults a ≤ d.faults b
   pub returned : d.returned b ≡ d.returned a
   pub dials : d.dials b ≡ d.dials a
   pub retired : d.retired b ≡ d.retired a
+  pub requested : d.asked_gates b ≡ d.asked_gates a
+  pub shut : d.shut_doors b ≡ d.shut_doors a
 
 -- the gates that are handed back, and how it ended
 pub record AllServed {G GIn GOut H HIn HOut : Type 0} (g : gate_of.Ghosts G GIn GOut)
