@@ -1,6 +1,6 @@
 //! A dialer in memory, which gives the links that it was made with.
 ghost use Rattle.std.specs.Prelude.{◌≡◌, ◌↔◌, ◌⊎◌, ◌+◌, ◌≤◌, ◌∷◌, ◌++◌, [], All, if◌then◌else◌, IfOk, OnErr};
-ghost use Rattle.std.specs.Prelude.{IsErr, IsOk, IsTrue, Some, is_err, map};
+ghost use Rattle.std.specs.Prelude.{IsErr, IsOk, IsTrue, None, Some, is_err, map};
 ghost use Rattle.dp_outside.specs.Causes.{HasCause, Rose};
 ghost use Rattle.dp_outside.specs.Fakes.{after_call, is_due, one_more};
 ghost use Rattle.dp_outside.specs.Links.{CountsReturned, made};
