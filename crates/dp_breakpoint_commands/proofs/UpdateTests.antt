@@ -66,7 +66,7 @@ pub words_told : (resolve : Bool) (bundle : Bundle) (t : Table) (update : Breakp
     → IsCode (update_refusal resolve bundle t update) e
 words_told resolve bundle t update b e found h =
     subst (λ (o : Option Breakpoint). IsCode (option_map_or (change_refused resolve bundle update) o
-        (Some NoSuchBreakpoint)) e)
+    (Some NoSuchBreakpoint)) e)
     found (by (first_code (change_tests b.kind update)) h)
   where
     by : (o : Option ErrorCode) → refused e ≡ answer_of o (change update)
@@ -88,7 +88,7 @@ pub change_told : (resolve : Bool) (bundle : Bundle) (t : Table) (update : Break
     → IsCode (update_refusal resolve bundle t update) (error_of e)
 change_told resolve bundle t update b c e found words h =
     subst (λ (o : Option Breakpoint). IsCode (option_map_or (change_refused resolve bundle update) o
-        (Some NoSuchBreakpoint))
+    (Some NoSuchBreakpoint))
     (error_of e)) found
     (by (first_code (change_tests b.kind update)) words (subst (λ (o : Option Breakpoint). not_held e
     ≡ held_refusal.answer_of (held_refusal.update_refusal resolve bundle c o)) (sym found) h))

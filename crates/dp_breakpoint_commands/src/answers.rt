@@ -134,8 +134,8 @@ fn update_breakpoint(
 ) -> Result<Response, BreakpointError>
     ensures response { IfOk result (λ r. r ≡ spec.bare_response to.now.command to.now.id) }
     ensures accepted { OnOk result (spec.update_refusal resolve bundle.now breaks.old update.now ≡ None) }
-    ensures table
-        { OnOk result (breaks.new ≡ with_change resolve bundle.now update.now.id (change update.now) breaks.old) }
+    ensures table { OnOk result
+        (breaks.new ≡ with_change resolve bundle.now update.now.id (change update.now) breaks.old) }
     ensures refused { IfErr result (IsCause (spec.update_refusal resolve bundle.now breaks.old update.now)) }
     ensures surely { IfSome (spec.update_refusal resolve bundle.now breaks.old update.now) (λ code.
         result ≡ Err (BreakpointError.Code code)) }
@@ -217,8 +217,8 @@ pub fn answer_breakpoints(
         ≡ breakpoint_notice wishes bundle.now here breaks.old request) }
     ensures accepted { OnOk result (spec.breakpoint_refusal wishes.resolve bundle.now here breaks.old request ≡ None) }
     ensures table { OnOk result (breaks.new ≡ spec.breakpoint_table wishes.resolve bundle.now here request breaks.old) }
-    ensures refused
-        { IfErr result (IsCause (spec.breakpoint_refusal wishes.resolve bundle.now here breaks.old request)) }
+    ensures refused { IfErr result
+        (IsCause (spec.breakpoint_refusal wishes.resolve bundle.now here breaks.old request)) }
     // Out of memory comes before a refusal only where a URI is to be decoded, or an expression is to be read.
     ensures surely { spec.names_uri request ≡ false
         → IfSome (spec.plain_breakpoint_refusal wishes.resolve bundle.now here breaks.old request) (λ code.

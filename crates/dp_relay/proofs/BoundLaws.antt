@@ -276,163 +276,163 @@ pub record Serves (count : ℕ) (x y : EnginePost) : Type 0 where
   pub registers : y.clerk.made.registers ≡ x.clerk.made.registers
 
 module _ (x y : EnginePost) (before after : Ends) (ide : Option Ends) (visited : Visited x.gate y.gate before after)
-    where
-  -- an engine that came with a key, and was counted in the journal alone
-  keyed_one : (read key : List ℕ) → Gave before after read → ComesWith read key → y.tally ≡ x.tally
-      → Booked 1 x.clerk y.clerk x.tally y.tally → IsPrefix x.clerk.seen y.clerk.seen → Serves 1 x y
-  keyed_one read key gave comes same b grows =
-      record {
-        links = link_of after ∷ [];
-        retired = visited.retired;
-        number = refl;
-        keys = 1;
-        with_key = omega (arith, b.all, ap counted same, ap (λ (t : Tally). t.full) same);
-        keyed = at_least_one IsKeyed (link_of after)
-            (of_given (λ given. (k : List ℕ) × ComesWith given k) before after read visited.fresh gave (key, comes));
-        misfits = 0;
-        without_key = omega (arith, ap (λ (t : Tally). t.unfit) same);
-        unfit = tt;
-        later = visited.returned_later;
-        failed = inl (ap (λ (t : Tally). t.failed) same);
-        full = inl (ap (λ (t : Tally). t.full) same);
-        grows = grows;
-        registers = b.registers;
-      }
+  where
+    -- an engine that came with a key, and was counted in the journal alone
+    keyed_one : (read key : List ℕ) → Gave before after read → ComesWith read key → y.tally ≡ x.tally
+        → Booked 1 x.clerk y.clerk x.tally y.tally → IsPrefix x.clerk.seen y.clerk.seen → Serves 1 x y
+    keyed_one read key gave comes same b grows =
+        record {
+          links = link_of after ∷ [];
+          retired = visited.retired;
+          number = refl;
+          keys = 1;
+          with_key = omega (arith, b.all, ap counted same, ap (λ (t : Tally). t.full) same);
+          keyed = at_least_one IsKeyed (link_of after)
+              (of_given (λ given. (k : List ℕ) × ComesWith given k) before after read visited.fresh gave (key, comes));
+          misfits = 0;
+          without_key = omega (arith, ap (λ (t : Tally). t.unfit) same);
+          unfit = tt;
+          later = visited.returned_later;
+          failed = inl (ap (λ (t : Tally). t.failed) same);
+          full = inl (ap (λ (t : Tally). t.full) same);
+          grows = grows;
+          registers = b.registers;
+        }
 
-  -- one that came without
-  unfit_one : (read : List ℕ) → Gave before after read
-      → (IsKeyless read after.left ⊎ ((offset : ℕ) × IsBadFirst read offset))
-      → y.tally ≡ tally x.tally.full (x.tally.unfit + 1) x.tally.failed x.tally.starved → y.clerk ≡ x.clerk
-      → Serves 1 x y
-  unfit_one read gave why is same =
-      record {
-        links = link_of after ∷ [];
-        retired = visited.retired;
-        number = refl;
-        keys = 0;
-        with_key = omega (arith, ap (λ (k : Known). k.made.admits) same, ap (λ (t : Tally). t.full) is);
-        keyed = tt;
-        misfits = 1;
-        without_key = ap (λ (t : Tally). t.unfit) is;
-        unfit = at_least_one IsUnfit (link_of after)
-            (of_given (λ given. IsKeyless given after.left ⊎ ((offset : ℕ) × IsBadFirst given offset)) before after read
-            visited.fresh gave why);
-        later = visited.returned_later;
-        failed = inl (ap (λ (t : Tally). t.failed) is);
-        full = inl (ap (λ (t : Tally). t.full) is);
-        grows = same_grows x.clerk y.clerk same;
-        registers = ap (λ (k : Known). k.made.registers) same;
-      }
+    -- one that came without
+    unfit_one : (read : List ℕ) → Gave before after read
+        → (IsKeyless read after.left ⊎ ((offset : ℕ) × IsBadFirst read offset))
+        → y.tally ≡ tally x.tally.full (x.tally.unfit + 1) x.tally.failed x.tally.starved → y.clerk ≡ x.clerk
+        → Serves 1 x y
+    unfit_one read gave why is same =
+        record {
+          links = link_of after ∷ [];
+          retired = visited.retired;
+          number = refl;
+          keys = 0;
+          with_key = omega (arith, ap (λ (k : Known). k.made.admits) same, ap (λ (t : Tally). t.full) is);
+          keyed = tt;
+          misfits = 1;
+          without_key = ap (λ (t : Tally). t.unfit) is;
+          unfit = at_least_one IsUnfit (link_of after)
+              (of_given (λ given. IsKeyless given after.left ⊎ ((offset : ℕ) × IsBadFirst given offset)) before after
+              read visited.fresh gave why);
+          later = visited.returned_later;
+          failed = inl (ap (λ (t : Tally). t.failed) is);
+          full = inl (ap (λ (t : Tally). t.full) is);
+          grows = same_grows x.clerk y.clerk same;
+          registers = ap (λ (k : Known). k.made.registers) same;
+        }
 
-  -- one of which nothing is known
-  other_one : y.clerk.made.admits ≡ x.clerk.made.admits → y.clerk.made.registers ≡ x.clerk.made.registers
-      → y.tally.full ≡ x.tally.full → y.tally.unfit ≡ x.tally.unfit
-      → (y.tally.failed ≡ x.tally.failed) ⊎ Rose x.gate.returned y.gate.returned
-      → IsPrefix x.clerk.seen y.clerk.seen → Serves 1 x y
-  other_one admits registers no_full no_unfit failed grows =
-      record {
-        links = link_of after ∷ [];
-        retired = visited.retired;
-        number = refl;
-        keys = 0;
-        with_key = omega (arith, admits, no_full);
-        keyed = tt;
-        misfits = 0;
-        without_key = omega (arith, no_unfit);
-        unfit = tt;
-        later = visited.returned_later;
-        failed = failed;
-        full = inl no_full;
-        grows = grows;
-        registers = registers;
-      }
+    -- one of which nothing is known
+    other_one : y.clerk.made.admits ≡ x.clerk.made.admits → y.clerk.made.registers ≡ x.clerk.made.registers
+        → y.tally.full ≡ x.tally.full → y.tally.unfit ≡ x.tally.unfit
+        → (y.tally.failed ≡ x.tally.failed) ⊎ Rose x.gate.returned y.gate.returned
+        → IsPrefix x.clerk.seen y.clerk.seen → Serves 1 x y
+    other_one admits registers no_full no_unfit failed grows =
+        record {
+          links = link_of after ∷ [];
+          retired = visited.retired;
+          number = refl;
+          keys = 0;
+          with_key = omega (arith, admits, no_full);
+          keyed = tt;
+          misfits = 0;
+          without_key = omega (arith, no_unfit);
+          unfit = tt;
+          later = visited.returned_later;
+          failed = failed;
+          full = inl no_full;
+          grows = grows;
+          registers = registers;
+        }
 
-  -- one that found no room
-  full_one : (read key : List ℕ) → Gave before after read → ComesWith read key → SawNoRoom y.clerk
-      → y.tally ≡ tally (x.tally.full + 1) x.tally.unfit x.tally.failed x.tally.starved
-      → Booked 1 x.clerk y.clerk x.tally y.tally → IsPrefix x.clerk.seen y.clerk.seen → Serves 1 x y
-  full_one read key gave comes crowded is b grows =
-      record {
-        links = link_of after ∷ [];
-        retired = visited.retired;
-        number = refl;
-        keys = 1;
-        with_key = omega (arith, b.all, ap counted is, ap (λ (t : Tally). t.full) is);
-        keyed = at_least_one IsKeyed (link_of after)
-            (of_given (λ given. (k : List ℕ) × ComesWith given k) before after read visited.fresh gave (key, comes));
-        misfits = 0;
-        without_key = omega (arith, ap (λ (t : Tally). t.unfit) is);
-        unfit = tt;
-        later = visited.returned_later;
-        failed = inl (ap (λ (t : Tally). t.failed) is);
-        full = inr crowded;
-        grows = grows;
-        registers = b.registers;
-      }
+    -- one that found no room
+    full_one : (read key : List ℕ) → Gave before after read → ComesWith read key → SawNoRoom y.clerk
+        → y.tally ≡ tally (x.tally.full + 1) x.tally.unfit x.tally.failed x.tally.starved
+        → Booked 1 x.clerk y.clerk x.tally y.tally → IsPrefix x.clerk.seen y.clerk.seen → Serves 1 x y
+    full_one read key gave comes crowded is b grows =
+        record {
+          links = link_of after ∷ [];
+          retired = visited.retired;
+          number = refl;
+          keys = 1;
+          with_key = omega (arith, b.all, ap counted is, ap (λ (t : Tally). t.full) is);
+          keyed = at_least_one IsKeyed (link_of after)
+              (of_given (λ given. (k : List ℕ) × ComesWith given k) before after read visited.fresh gave (key, comes));
+          misfits = 0;
+          without_key = omega (arith, ap (λ (t : Tally). t.unfit) is);
+          unfit = tt;
+          later = visited.returned_later;
+          failed = inl (ap (λ (t : Tally). t.failed) is);
+          full = inr crowded;
+          grows = grows;
+          registers = b.registers;
+        }
 
-  -- a link that failed comes back as such
-  returned_rose : (count : ℕ) → 0 < count → CountsReturned count x.gate.returned y.gate.returned
-      → Rose x.gate.returned y.gate.returned
-  returned_rose zero some c = absurd (omega (arith, some))
-  returned_rose (suc n) some c = c
+    -- a link that failed comes back as such
+    returned_rose : (count : ℕ) → 0 < count → CountsReturned count x.gate.returned y.gate.returned
+        → Rose x.gate.returned y.gate.returned
+    returned_rose zero some c = absurd (omega (arith, some))
+    returned_rose (suc n) some c = c
 
-  abbrev End : RelayEnd → Type 0
-  End end = EngineServed x.clerk y.clerk (with_link x.means before) (with_link y.means after) ide end
+    abbrev End : RelayEnd → Type 0
+    End end = EngineServed x.clerk y.clerk (with_link x.means before) (with_link y.means after) ide end
 
-  refused_one : (why : Refusal) → End (NoSession why) → y.tally ≡ tallied x.tally (NoSession why)
-      → Booked 1 x.clerk y.clerk x.tally y.tally → Serves 1 x y
-  refused_one (refusal.Full events sessions) s is b =
-      let c = s.0.called in
-      full_one s.0.read s.0.key s.0.heard.gave s.0.comes
-      (elim c.answer [
-        | inl out ↦ absurd (s.1 (ap why_of out))
-        | inr same ↦ (
-          c.at,
-          subst (IsPrefix c.at) (sym c.entered.seen) (prefix_self c.at),
-          subst (IsRoom (is_crowded c.at)) (sym same) (admit_room c.at s.0.key),
-        )
-      ])
-      is b (entered_grows x.clerk y.clerk c.at (λ reply. Admit s.0.key reply)
-      (admit_reply_of (Err (refusal.Full events sessions))) c.entered)
-  refused_one (refusal.Taken host port) s is b =
-      keyed_one s.0.read s.0.key s.0.heard.gave s.0.comes is b (entered_grows x.clerk y.clerk s.0.called.at
-      (λ reply. Admit s.0.key reply) (admit_reply_of (Err (refusal.Taken host port))) s.0.called.entered)
-  refused_one refusal.Unknown s is b =
-      keyed_one s.0.read s.0.key s.0.heard.gave s.0.comes is b (entered_grows x.clerk y.clerk s.0.called.at
-      (λ reply. Admit s.0.key reply) (admit_reply_of (Err refusal.Unknown)) s.0.called.entered)
-  refused_one refusal.NotYours s is b =
-      keyed_one s.0.read s.0.key s.0.heard.gave s.0.comes is b (entered_grows x.clerk y.clerk s.0.called.at
-      (λ reply. Admit s.0.key reply) (admit_reply_of (Err refusal.NotYours)) s.0.called.entered)
-  refused_one (refusal.Busy session) s is b =
-      keyed_one s.0.read s.0.key s.0.heard.gave s.0.comes is b (entered_grows x.clerk y.clerk s.0.called.at
-      (λ reply. Admit s.0.key reply) (admit_reply_of (Err (refusal.Busy session))) s.0.called.entered)
-  refused_one refusal.Memory s is b = absurd (s.1 refl)
+    refused_one : (why : Refusal) → End (NoSession why) → y.tally ≡ tallied x.tally (NoSession why)
+        → Booked 1 x.clerk y.clerk x.tally y.tally → Serves 1 x y
+    refused_one (refusal.Full events sessions) s is b =
+        let c = s.0.called in
+        full_one s.0.read s.0.key s.0.heard.gave s.0.comes
+        (elim c.answer [
+          | inl out ↦ absurd (s.1 (ap why_of out))
+          | inr same ↦ (
+            c.at,
+            subst (IsPrefix c.at) (sym c.entered.seen) (prefix_self c.at),
+            subst (IsRoom (is_crowded c.at)) (sym same) (admit_room c.at s.0.key),
+          )
+        ])
+        is b (entered_grows x.clerk y.clerk c.at (λ reply. Admit s.0.key reply)
+        (admit_reply_of (Err (refusal.Full events sessions))) c.entered)
+    refused_one (refusal.Taken host port) s is b =
+        keyed_one s.0.read s.0.key s.0.heard.gave s.0.comes is b (entered_grows x.clerk y.clerk s.0.called.at
+        (λ reply. Admit s.0.key reply) (admit_reply_of (Err (refusal.Taken host port))) s.0.called.entered)
+    refused_one refusal.Unknown s is b =
+        keyed_one s.0.read s.0.key s.0.heard.gave s.0.comes is b (entered_grows x.clerk y.clerk s.0.called.at
+        (λ reply. Admit s.0.key reply) (admit_reply_of (Err refusal.Unknown)) s.0.called.entered)
+    refused_one refusal.NotYours s is b =
+        keyed_one s.0.read s.0.key s.0.heard.gave s.0.comes is b (entered_grows x.clerk y.clerk s.0.called.at
+        (λ reply. Admit s.0.key reply) (admit_reply_of (Err refusal.NotYours)) s.0.called.entered)
+    refused_one (refusal.Busy session) s is b =
+        keyed_one s.0.read s.0.key s.0.heard.gave s.0.comes is b (entered_grows x.clerk y.clerk s.0.called.at
+        (λ reply. Admit s.0.key reply) (admit_reply_of (Err (refusal.Busy session))) s.0.called.entered)
+    refused_one refusal.Memory s is b = absurd (s.1 refl)
 
-  end_one : (end : RelayEnd) → End end → y.tally ≡ tallied x.tally end → Booked 1 x.clerk y.clerk x.tally y.tally
-      → Serves 1 x y
-  end_one BadInit s is b = unfit_one s.0.read s.0.heard.gave (inl s.0.cause) is s.0.clerk
-  end_one (BadFrame offset) s is b = unfit_one s.0.read s.0.heard.gave (inr (offset, s.0.cause)) is s.0.clerk
-  end_one ReadFault s is b =
-      other_one (ap (λ (k : Known). k.made.admits) s.0.clerk) b.registers (ap (λ (t : Tally). t.full) is)
-      (ap (λ (t : Tally). t.unfit) is)
-      (inr (returned_rose (after.source_faults + after.sink_faults) (omega (arith, s.1.1)) visited.returned))
-      (same_grows x.clerk y.clerk s.0.clerk)
-  end_one Memory s is b = elim s [
-    | inl first ↦ other_one (ap (λ (k : Known). k.made.admits) first.0.clerk) b.registers
-        (ap (λ (t : Tally). t.full) is) (ap (λ (t : Tally). t.unfit) is) (inl (ap (λ (t : Tally). t.failed) is))
-        (same_grows x.clerk y.clerk first.0.clerk)
-    | inr asked ↦ other_one (omega (arith, ap (λ (m : Made). m.admits) asked.called.entered.made)) b.registers
-        (ap (λ (t : Tally). t.full) is) (ap (λ (t : Tally). t.unfit) is) (inl (ap (λ (t : Tally). t.failed) is))
-        (entered_grows x.clerk y.clerk asked.called.at (λ reply. Admit asked.key reply)
-        (admit_reply_of (Err refusal.Memory)) asked.called.entered)
-  ]
-  end_one (NoSession why) s is b = refused_one why s is b
-  end_one DialFault s is b =
-      keyed_one s.read s.key s.heard.gave s.comes is b (had_grows x.clerk y.clerk s.key s.pass s.session)
-  end_one NoThread s is b =
-      keyed_one s.read s.key s.heard.gave s.comes is b (had_grows x.clerk y.clerk s.key s.pass s.session)
-  end_one (Joined number up down) s is b =
-      keyed_one s.packets.read s.key s.packets.gave s.comes is b (had_grows x.clerk y.clerk s.key s.pass s.session)
+    end_one : (end : RelayEnd) → End end → y.tally ≡ tallied x.tally end → Booked 1 x.clerk y.clerk x.tally y.tally
+        → Serves 1 x y
+    end_one BadInit s is b = unfit_one s.0.read s.0.heard.gave (inl s.0.cause) is s.0.clerk
+    end_one (BadFrame offset) s is b = unfit_one s.0.read s.0.heard.gave (inr (offset, s.0.cause)) is s.0.clerk
+    end_one ReadFault s is b =
+        other_one (ap (λ (k : Known). k.made.admits) s.0.clerk) b.registers (ap (λ (t : Tally). t.full) is)
+        (ap (λ (t : Tally). t.unfit) is)
+        (inr (returned_rose (after.source_faults + after.sink_faults) (omega (arith, s.1.1)) visited.returned))
+        (same_grows x.clerk y.clerk s.0.clerk)
+    end_one Memory s is b = elim s [
+      | inl first ↦ other_one (ap (λ (k : Known). k.made.admits) first.0.clerk) b.registers
+          (ap (λ (t : Tally). t.full) is) (ap (λ (t : Tally). t.unfit) is) (inl (ap (λ (t : Tally). t.failed) is))
+          (same_grows x.clerk y.clerk first.0.clerk)
+      | inr asked ↦ other_one (omega (arith, ap (λ (m : Made). m.admits) asked.called.entered.made)) b.registers
+          (ap (λ (t : Tally). t.full) is) (ap (λ (t : Tally). t.unfit) is) (inl (ap (λ (t : Tally). t.failed) is))
+          (entered_grows x.clerk y.clerk asked.called.at (λ reply. Admit asked.key reply)
+          (admit_reply_of (Err refusal.Memory)) asked.called.entered)
+    ]
+    end_one (NoSession why) s is b = refused_one why s is b
+    end_one DialFault s is b =
+        keyed_one s.read s.key s.heard.gave s.comes is b (had_grows x.clerk y.clerk s.key s.pass s.session)
+    end_one NoThread s is b =
+        keyed_one s.read s.key s.heard.gave s.comes is b (had_grows x.clerk y.clerk s.key s.pass s.session)
+    end_one (Joined number up down) s is b =
+        keyed_one s.packets.read s.key s.packets.gave s.comes is b (had_grows x.clerk y.clerk s.key s.pass s.session)
 
 serves_one : (x y : EnginePost) → ServedEngine x y → Serves 1 x y
 serves_one x y s =

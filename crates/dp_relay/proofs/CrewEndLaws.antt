@@ -190,7 +190,7 @@ module _ {G GIn GOut H HIn HOut D DIn DOut P Rt E T O : Type 0} (g : gate_of.Gho
       subst (Each (λ task. (clerk_of task).desk ≡ base.desk)) (sym f.are)
       (each_join (λ task. (clerk_of task).desk ≡ base.desk) f.asks f.serves
       (seconds (IsHired clerk_of port_of count_of (λ k q. q ≡ port.Ides k) base)
-          (λ task. (clerk_of task).desk ≡ base.desk)
+      (λ task. (clerk_of task).desk ≡ base.desk)
       (λ k t is. is.1.desk) ides f.asks f.for_ides)
       (seconds (IsHired clerk_of port_of count_of IsEngines base) (λ task. (clerk_of task).desk ≡ base.desk)
       (λ k t is. is.1.desk) engines f.serves f.for_engines))
@@ -267,13 +267,13 @@ module _ {G GIn GOut H HIn HOut D DIn DOut P Rt E T O : Type 0} (g : gate_of.Gho
             (λ a. a.no_thread) (IdesServed g) (λ n. n) (λ n. 0) Refused (pairs count_of ides f.asks) last steps.0 x
             steps.1
             (ides_in_turn g h d p clerk_of port_of count_of closed_of clerk_over over_of base Refused ides f.asks
-                split.0
+            split.0
             last steps.0 x steps.1 f.for_ides split.3 reasons.0 steps.2);
         over_engines = all_over (gating h) (λ a. a.engines.items) (λ a. a.ides.items) (λ a. a.tally)
             (λ a. a.gate_fault) (λ a. a.no_thread) (EnginesServed h) (λ n. 0) (λ n. n) Refused
             (pairs count_of engines f.serves) steps.0 w steps.1 y
             (engines_in_turn g h d p clerk_of port_of count_of closed_of clerk_over over_of base Refused engines
-                f.serves
+            f.serves
             split.1 steps.0 w steps.1 y f.for_engines split.4 reasons.1 steps.3);
         ide_gates = firsts count_of (IsHired clerk_of port_of count_of (λ k q. q ≡ port.Ides k) base) ides f.asks
             f.for_ides;
@@ -377,11 +377,19 @@ module _ {G GIn GOut H HIn HOut D DIn DOut P Rt E T O : Type 0} (g : gate_of.Gho
           let n = fine_ides.made in
           let k : last.made ≡ made 0 0 0 = o.made ∙ none in
           same_made w.made (plus (made_in_all fine_ides.workers) (made_in_all fine_engines.workers))
-          (omega (arith, ap (λ (q : Made). q.registers) m, ap (λ (q : Made). q.registers) n,
-              ap (λ (q : Made). q.registers) k))
+          (omega (
+            arith,
+            ap (λ (q : Made). q.registers) m,
+            ap (λ (q : Made). q.registers) n,
+            ap (λ (q : Made). q.registers) k,
+          ))
           (omega (arith, ap (λ (q : Made). q.admits) m, ap (λ (q : Made). q.admits) n, ap (λ (q : Made). q.admits) k))
-          (omega (arith, ap (λ (q : Made). q.dismissals) m, ap (λ (q : Made). q.dismissals) n,
-              ap (λ (q : Made). q.dismissals) k))
+          (omega (
+            arith,
+            ap (λ (q : Made). q.dismissals) m,
+            ap (λ (q : Made). q.dismissals) n,
+            ap (λ (q : Made). q.dismissals) k,
+          ))
 
       tally_is : y.tally ≡ tally_in_all fine_engines.workers
       tally_is =
@@ -389,18 +397,38 @@ module _ {G GIn GOut H HIn HOut D DIn DOut P Rt E T O : Type 0} (g : gate_of.Gho
           let u = fine_ides.tally in
           let v = blank.tally in
           same_tally y.tally (tally_in_all fine_engines.workers)
-          (omega (arith, ap (λ (q : Tally). q.full) t, ap (λ (q : Tally). q.full) u, ap (λ (q : Tally). q.full) v,
-              uncounted))
-          (omega (arith, ap (λ (q : Tally). q.unfit) t, ap (λ (q : Tally). q.unfit) u, ap (λ (q : Tally). q.unfit) v,
-              uncounted))
-          (omega (arith, ap (λ (q : Tally). q.failed) t, ap (λ (q : Tally). q.failed) u, ap (λ (q : Tally). q.failed) v,
-              uncounted))
-          (omega (arith, ap (λ (q : Tally). q.starved) t, ap (λ (q : Tally). q.starved) u,
-              ap (λ (q : Tally). q.starved) v, uncounted))
+          (omega (
+            arith,
+            ap (λ (q : Tally). q.full) t,
+            ap (λ (q : Tally). q.full) u,
+            ap (λ (q : Tally). q.full) v,
+            uncounted,
+          ))
+          (omega (
+            arith,
+            ap (λ (q : Tally). q.unfit) t,
+            ap (λ (q : Tally). q.unfit) u,
+            ap (λ (q : Tally). q.unfit) v,
+            uncounted,
+          ))
+          (omega (
+            arith,
+            ap (λ (q : Tally). q.failed) t,
+            ap (λ (q : Tally). q.failed) u,
+            ap (λ (q : Tally). q.failed) v,
+            uncounted,
+          ))
+          (omega (
+            arith,
+            ap (λ (q : Tally). q.starved) t,
+            ap (λ (q : Tally). q.starved) u,
+            ap (λ (q : Tally). q.starved) v,
+            uncounted,
+          ))
 
       pub crew_done : (s : Summary) → base.made ≡ made 0 0 0 → s ≡ summary journal y.tally → IsLegal journal
           → Counts journal w.made → CrewDone g h ides engines registrations sessions y.ides.items y.engines.items s
-              journal
+          journal
       crew_done s none is legal counts =
           let numbers : s ≡ summary journal (tally_in_all fine_engines.workers) = is ∙ ap (summary journal) tally_is in
           let all : Counts journal (plus (made_in_all fine_ides.workers) (made_in_all fine_engines.workers)) =
@@ -485,7 +513,7 @@ module _ {G GIn GOut H HIn HOut D DIn DOut P Rt E T O : Type 0} (g : gate_of.Gho
 
       module _ (w : Known) (x y : Account G H) (why : 0 < count_by is_err answers → Refused)
           (took : FoldsBoth (Took g h d p clerk_of port_of count_of closed_of clerk_over over_of base Refused) answers
-              last
+          last
           w x y) (blank : IsBlank x) (few : sessions ≤ 65535) where
         led : CrewOver last w x y
         led = crew_over last w tasks answers x y (hires before middle one last tasks none first second) ran why took

@@ -164,78 +164,78 @@ module _ {K L A : Type 0} (see : K → Gating) (listed : A → List K) (beside :
       }
 
   module _ (a : K × ℕ) (lots : List (K × ℕ)) (v u w : Known) (x z y : A) (o : One a v u x z) (r : Over lots u w z y)
-      where
-    items_led : listed y ≡ listed x ++ o.back ∷ r.back
-    items_led = r.items ∙ (ap (λ l. l ++ r.back) o.items ∙ append_assoc (listed x) (o.back ∷ []) r.back)
+    where
+      items_led : listed y ≡ listed x ++ o.back ∷ r.back
+      items_led = r.items ∙ (ap (λ l. l ++ r.back) o.items ∙ append_assoc (listed x) (o.back ∷ []) r.back)
 
-    over_done : Done a o.back v u x z → Over (a ∷ lots) v w x y
-    over_done d =
-        record {
-          back = o.back ∷ r.back;
-          items = items_led;
-          others = r.others ∙ o.others;
-          came = (o.came, r.came);
-          grows = prefix_trans v.seen u.seen w.seen d.gained.seen r.grows;
-          stays_failed = λ e. r.stays_failed (d.failed ∙ e);
-          stays_stopped = λ e. r.stays_stopped (d.stopped ∙ e);
-          why_failed = λ e. elim (r.why_failed e) [
-            | inl before ↦ inl (sym d.failed ∙ before)
-            | inr one ↦ inr (inr one)
-          ];
-          why_stopped = λ e. elim (r.why_stopped e) [
-            | inl before ↦ inl (sym d.stopped ∙ before)
-            | inr one ↦ inr one
-          ];
-          fine = λ f s journal front room.
-              one_fine journal a lots o.back r.back v u w x z y d (prefix_trans u.seen w.seen journal r.grows front)
-                  room
-              (r.fine f s journal front);
-        }
+      over_done : Done a o.back v u x z → Over (a ∷ lots) v w x y
+      over_done d =
+          record {
+            back = o.back ∷ r.back;
+            items = items_led;
+            others = r.others ∙ o.others;
+            came = (o.came, r.came);
+            grows = prefix_trans v.seen u.seen w.seen d.gained.seen r.grows;
+            stays_failed = λ e. r.stays_failed (d.failed ∙ e);
+            stays_stopped = λ e. r.stays_stopped (d.stopped ∙ e);
+            why_failed = λ e. elim (r.why_failed e) [
+              | inl before ↦ inl (sym d.failed ∙ before)
+              | inr one ↦ inr (inr one)
+            ];
+            why_stopped = λ e. elim (r.why_stopped e) [
+              | inl before ↦ inl (sym d.stopped ∙ before)
+              | inr one ↦ inr one
+            ];
+            fine = λ f s journal front room.
+                one_fine journal a lots o.back r.back v u w x z y d (prefix_trans u.seen w.seen journal r.grows front)
+                room
+                (r.fine f s journal front);
+          }
 
-    over_broke : Broke a o.back v u x z → Over (a ∷ lots) v w x y
-    over_broke d =
-        record {
-          back = o.back ∷ r.back;
-          items = items_led;
-          others = r.others ∙ o.others;
-          came = (o.came, r.came);
-          grows = subst (λ (k : Known). IsPrefix k.seen w.seen) d.clerk r.grows;
-          stays_failed = λ e. r.stays_failed d.failed;
-          stays_stopped = λ e. r.stays_stopped (d.stopped ∙ e);
-          why_failed = λ e. inr (inl d.rose);
-          why_stopped = λ e. elim (r.why_stopped e) [
-            | inl before ↦ inl (sym d.stopped ∙ before)
-            | inr one ↦ inr one
-          ];
-          fine = λ f s journal front room. absurd (true≢false (sym (r.stays_failed d.failed) ∙ f));
-        }
+      over_broke : Broke a o.back v u x z → Over (a ∷ lots) v w x y
+      over_broke d =
+          record {
+            back = o.back ∷ r.back;
+            items = items_led;
+            others = r.others ∙ o.others;
+            came = (o.came, r.came);
+            grows = subst (λ (k : Known). IsPrefix k.seen w.seen) d.clerk r.grows;
+            stays_failed = λ e. r.stays_failed d.failed;
+            stays_stopped = λ e. r.stays_stopped (d.stopped ∙ e);
+            why_failed = λ e. inr (inl d.rose);
+            why_stopped = λ e. elim (r.why_stopped e) [
+              | inl before ↦ inl (sym d.stopped ∙ before)
+              | inr one ↦ inr one
+            ];
+            fine = λ f s journal front room. absurd (true≢false (sym (r.stays_failed d.failed) ∙ f));
+          }
 
-    over_unbegun : Unbegun a o.back v u x z → Over (a ∷ lots) v w x y
-    over_unbegun d =
-        record {
-          back = o.back ∷ r.back;
-          items = items_led;
-          others = r.others ∙ o.others;
-          came = (o.came, r.came);
-          grows = subst (λ (k : Known). IsPrefix k.seen w.seen) d.clerk r.grows;
-          stays_failed = λ e. r.stays_failed (d.failed ∙ e);
-          stays_stopped = λ e. r.stays_stopped d.stopped;
-          why_failed = λ e. elim (r.why_failed e) [
-            | inl before ↦ inl (sym d.failed ∙ before)
-            | inr one ↦ inr (inr one)
-          ];
-          why_stopped = λ e. inr d.refused;
-          fine = λ f s journal front room. absurd (true≢false (sym (r.stays_stopped d.stopped) ∙ s));
-        }
+      over_unbegun : Unbegun a o.back v u x z → Over (a ∷ lots) v w x y
+      over_unbegun d =
+          record {
+            back = o.back ∷ r.back;
+            items = items_led;
+            others = r.others ∙ o.others;
+            came = (o.came, r.came);
+            grows = subst (λ (k : Known). IsPrefix k.seen w.seen) d.clerk r.grows;
+            stays_failed = λ e. r.stays_failed (d.failed ∙ e);
+            stays_stopped = λ e. r.stays_stopped d.stopped;
+            why_failed = λ e. elim (r.why_failed e) [
+              | inl before ↦ inl (sym d.failed ∙ before)
+              | inr one ↦ inr (inr one)
+            ];
+            why_stopped = λ e. inr d.refused;
+            fine = λ f s journal front room. absurd (true≢false (sym (r.stays_stopped d.stopped) ∙ s));
+          }
 
-    one_over : Over (a ∷ lots) v w x y
-    one_over = elim o.how [
-      | inl d ↦ over_done d
-      | inr other ↦ elim other [
-        | inl d ↦ over_broke d
-        | inr d ↦ over_unbegun d
+      one_over : Over (a ∷ lots) v w x y
+      one_over = elim o.how [
+        | inl d ↦ over_done d
+        | inr other ↦ elim other [
+          | inl d ↦ over_broke d
+          | inr d ↦ over_unbegun d
+        ]
       ]
-    ]
 
   pub all_over : (lots : List (K × ℕ)) (v w : Known) (x y : A) → FoldsBoth One lots v w x y → Over lots v w x y
   all_over [] v w x y f =

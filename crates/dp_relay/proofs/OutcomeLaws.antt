@@ -216,7 +216,7 @@ module _ {G GIn GOut H HIn HOut D DIn DOut P Rt E T O : Type 0} (g : gate_of.Gho
         others = ap (λ e. e.items) took.gate.0;
         came = subst (λ k. IsBack (gating h k) (gating h back)) is
             (works_back {E = E} (λ k. k.gate) ServedEngine NoEngine engine_asked engine_missed count _ _ (Ok done)
-                did.0.1);
+            did.0.1);
         how = inl (record {
           worker = record { begun = first; count = count; before = own; after = after; tally = t };
           begun = is;
@@ -246,7 +246,7 @@ module _ {G GIn GOut H HIn HOut D DIn DOut P Rt E T O : Type 0} (g : gate_of.Gho
         others = ap (λ e. e.items) took.gate.0;
         came = subst (λ k. IsBack (gating h k) (gating h back)) is
             (works_back {E = E} (λ k. k.gate) ServedEngine NoEngine engine_asked engine_missed count _ _ (Err why)
-                did.0.1);
+            did.0.1);
         how = inr (inl (record {
           rose = subst (λ k. Rose (h.faults k) (h.faults back)) is
               (works_rose {E = E} (λ k. k.gate) ServedEngine NoEngine engine_asked engine_missed count _ _ why did.0.1);
@@ -327,7 +327,7 @@ module _ {G GIn GOut H HIn HOut D DIn DOut P Rt E T O : Type 0} (g : gate_of.Gho
   pub is_own : (task : T) (answer : Result O T) → (clerk_of task).desk ≡ base.desk → Ran task answer → IsOwn answer
   is_own task (Ok over) same ran =
       own_desk base (port_of task) (clerk_of task) (count_of task) (closed_of over) (clerk_over over) (over_of over)
-          same
+      same
       ran
   is_own task (Err back) same ran = tt
 

@@ -41,7 +41,7 @@ IsKeyed link = OfGiven (λ given. (key : List ℕ) × ComesWith given key) link.
 abbrev pub IsUnfit : Link → Type 0
 IsUnfit link =
     OfGiven (λ given. IsKeyless given link.left ⊎ ((offset : ℕ) × IsBadFirst given offset))
-        link.given
+    link.given
 
 -- the link of an IDE: its command names a call
 abbrev pub NamesCall : Link → Type 0
@@ -58,7 +58,7 @@ Begins handed start = IsAtRest handed start ⊎ IsTwinGate handed start
 abbrev pub CameBack : {G In Out : Type 0} → gate_of.Ghosts G In Out → G → G → List Link → Type 0
 CameBack g handed gate links =
     (start : Gating) × Begins (gating g handed) start
-        × ((gating g gate).retired ≡ grown start.retired links)
+    × ((gating g gate).retired ≡ grown start.retired links)
 
 -- a link that had failed came back to the gate
 abbrev pub HasReturned : {G In Out : Type 0} → gate_of.Ghosts G In Out → G → G → Type 0

@@ -26,9 +26,8 @@ pub(crate) fn account_of<G: Drop, H: Drop>(
     alloc: Global,
     gates: usize,
 ) -> Result<Account<G, H>, Memory>
-    ensures room
-        { IfOk result (λ account. HasRoom gates (vec_len account.ides) (vec_capacity account.ides)
-            (vec_len account.engines) (vec_capacity account.engines)) }
+    ensures room { IfOk result (λ account. HasRoom gates (vec_len account.ides) (vec_capacity account.ides)
+        (vec_len account.engines) (vec_capacity account.engines)) }
     ensures ides { IfOk result (λ account. account.ides.items ≡ []) }
     ensures engines { IfOk result (λ account. account.engines.items ≡ []) }
     ensures tally { IfOk result (λ account. account.tally ≡ tally 0 0 0 0) }
@@ -64,9 +63,9 @@ fn take_gate<G: Drop, H: Drop>(account: &mut Account<G, H>, closed: Closed<G, H>
     ensures gate { TookGate closed account.old account.new }
     ensures room { (more : ℕ)
         → HasRoom (more + 1) (vec_len account.old.ides) (vec_capacity account.old.ides) (vec_len account.old.engines)
-            (vec_capacity account.old.engines)
+        (vec_capacity account.old.engines)
         → HasRoom more (vec_len account.new.ides) (vec_capacity account.new.ides) (vec_len account.new.engines)
-            (vec_capacity account.new.engines) }
+        (vec_capacity account.new.engines) }
     ensures gate_fault { account.new.gate_fault ≡ account.old.gate_fault }
     ensures no_thread { account.new.no_thread ≡ account.old.no_thread }
 {
@@ -89,9 +88,9 @@ fn take_port<G: Drop, H: Drop, D: Drop, P: Drop>(
     ensures gate { TookPort port account.old account.new }
     ensures room { (more : ℕ)
         → HasRoom (more + 1) (vec_len account.old.ides) (vec_capacity account.old.ides) (vec_len account.old.engines)
-            (vec_capacity account.old.engines)
+        (vec_capacity account.old.engines)
         → HasRoom more (vec_len account.new.ides) (vec_capacity account.new.ides) (vec_len account.new.engines)
-            (vec_capacity account.new.engines) }
+        (vec_capacity account.new.engines) }
     ensures tally { account.new.tally ≡ account.old.tally }
     ensures gate_fault { account.new.gate_fault ≡ account.old.gate_fault }
     ensures no_thread { account.new.no_thread ≡ account.old.no_thread }
@@ -122,9 +121,9 @@ pub(crate) fn take_back<'a, A: Ledger, B: Ledger, C: Ledger, G: Drop, H: Drop, D
         (λ task. TookUndone task.port clerk.old clerk.new account.old account.new) }
     ensures room { (more : ℕ)
         → HasRoom (more + 1) (vec_len account.old.ides) (vec_capacity account.old.ides) (vec_len account.old.engines)
-            (vec_capacity account.old.engines)
+        (vec_capacity account.old.engines)
         → HasRoom more (vec_len account.new.ides) (vec_capacity account.new.ides) (vec_len account.new.engines)
-            (vec_capacity account.new.engines) }
+        (vec_capacity account.new.engines) }
     ensures desk { clerk.new.desk ≡ clerk.old.desk }
 {
     match answer {

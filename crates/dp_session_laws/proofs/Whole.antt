@@ -352,7 +352,7 @@ module _ (command id : Text) (p : length command ≤ 64) (q : length id ≤ 64) 
   -- a response to a breakpoint command
   breakpoint_known : (r : BreakpointRequest)
       → HasMessage (packet.Response (breakpoint_response (resolves state.features) state.bundle command id
-          state.breaks r))
+      state.breaks r))
   breakpoint_known (asked.Set set) = refl
   breakpoint_known (asked.One Get number) = refl
   breakpoint_known (asked.One Remove number) = refl

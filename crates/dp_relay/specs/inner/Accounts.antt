@@ -27,7 +27,7 @@ TookGate (Ides gate) x y =
     (y.ides.items ≡ x.ides.items ++ gate ∷ []) × (y.engines ≡ x.engines) × (y.tally ≡ x.tally)
 TookGate (Engines gate t) x y =
     (y.ides ≡ x.ides) × (y.engines.items ≡ x.engines.items ++ gate ∷ [])
-        × (y.tally ≡ added x.tally t)
+    × (y.tally ≡ added x.tally t)
 
 -- what the clerk of a task has comes to one clerk, unless its gate failed
 abbrev pub TookClerk : {E : Type 0} → Known → Result ⊤ E → Known → Known → Bool → Bool → Type 0

@@ -72,7 +72,7 @@ Crewed g h ides engines registrations sessions starts gs hs (Ok done) =
     CrewDone g h ides engines registrations sessions gs hs done.0 done.1
 Crewed g h ides engines registrations sessions starts gs hs (Err GateFault) =
     CameBackFrom g ides gs × CameBackFrom h engines hs
-        × (HasRisen g ides gs ⊎ HasRisen h engines hs)
+    × (HasRisen g ides gs ⊎ HasRisen h engines hs)
 Crewed g h ides engines registrations sessions starts gs hs (Err NoThread) =
     CameBackFrom g ides gs × CameBackFrom h engines hs × Rose starts.before starts.now
 Crewed g h ides engines registrations sessions starts gs hs (Err Memory) =

@@ -17,11 +17,11 @@ unfolding past-by
 returns-then-branch-clause-reached g c = λ bound writes n stands.
     let way = c.loop.invariant bound writes n stands in
     let goes = rw c.in-At.is at
-        (c.in_ok-moment.ensures c.args.depth c.args.bundle.now bound writes way.at way.stands) in
+    (c.in_ok-moment.ensures c.args.depth c.args.bundle.now bound writes way.at way.stands) in
     let past = past-by _ _ _ _ _ _ _ _ _ _ way _ c.go_on.new.machine _ goes in
     let pass = c.in_ok-pass-in-At.ensures in
     reaches _ _ _ _ _ _ _ _ _ past c.in-At.moment c.go_on.new.machine goes.goes_on _ goes.counted c.state.result.now
-        c.state.ensures
+    c.state.ensures
     c.pass.new.breaks pass.breaks _ pass.stop c.if-branch.true
 
 pub returns-then-branch-clause-breaks : goal.returns-then-branch-clause-breaks
@@ -29,11 +29,11 @@ unfolding past-by
 returns-then-branch-clause-breaks g c = λ bound writes n stands.
     let way = c.loop.invariant bound writes n stands in
     let goes = rw c.in-At.is at
-        (c.in_ok-moment.ensures c.args.depth c.args.bundle.now bound writes way.at way.stands) in
+    (c.in_ok-moment.ensures c.args.depth c.args.bundle.now bound writes way.at way.stands) in
     let past = past-by _ _ _ _ _ _ _ _ _ _ way _ c.go_on.new.machine _ goes in
     let pass = c.in_ok-pass-in-At.ensures in
     reaches-with _ _ _ _ _ _ _ _ _ past c.in-At.moment c.go_on.new.machine goes.goes_on _ goes.counted
-        c.state.result.now c.state.ensures
+    c.state.result.now c.state.ensures
     c.pass.new.breaks pass.breaks _ pass.stop c.if-branch.true
 
 pub returns-then-branch-clause-of : goal.returns-then-branch-clause-of
@@ -41,7 +41,7 @@ unfolding past-by
 returns-then-branch-clause-of g c = λ bound writes n stands.
     let way = c.loop.invariant bound writes n stands in
     let goes = rw c.in-At.is at
-        (c.in_ok-moment.ensures c.args.depth c.args.bundle.now bound writes way.at way.stands) in
+    (c.in_ok-moment.ensures c.args.depth c.args.bundle.now bound writes way.at way.stands) in
     let past = past-by _ _ _ _ _ _ _ _ _ _ way _ c.go_on.new.machine _ goes in
     reaches-of _ _ _ _ _ _ _ _ _ past c.in-At.moment c.go_on.new.machine goes.goes_on _ goes.counted
 
@@ -50,7 +50,7 @@ unfolding past-by
 returns-then-branch-clause-counted g c = λ bound writes n stands.
     let way = c.loop.invariant bound writes n stands in
     let goes = rw c.in-At.is at
-        (c.in_ok-moment.ensures c.args.depth c.args.bundle.now bound writes way.at way.stands) in
+    (c.in_ok-moment.ensures c.args.depth c.args.bundle.now bound writes way.at way.stands) in
     let past = past-by _ _ _ _ _ _ _ _ _ _ way _ c.go_on.new.machine _ goes in
     counts-moment _ _ _ _ _ _ _ _ _ past c.in-At.moment c.go_on.new.machine goes.goes_on _ goes.counted
 
@@ -59,11 +59,11 @@ unfolding past-by
 loop-preserved g c = λ bound writes n stands.
     let way = c.loop.invariant bound writes n stands in
     let goes = rw c.in-At.is at
-        (c.in_ok-moment.ensures c.args.depth c.args.bundle.now bound writes way.at way.stands) in
+    (c.in_ok-moment.ensures c.args.depth c.args.bundle.now bound writes way.at way.stands) in
     let past = past-by _ _ _ _ _ _ _ _ _ _ way _ c.go_on.new.machine _ goes in
     let pass = c.in_ok-pass-in-At.ensures in
     passes _ _ _ _ _ _ _ _ _ past c.in-At.moment c.go_on.new.machine goes.goes_on _ goes.counted c.state.result.now
-        c.state.ensures
+    c.state.ensures
     c.pass.new.breaks pass.breaks _ pass.stop c.if-branch.false
 
 pub returns-in-Ended-clause-reached : goal.returns-in-Ended-clause-reached
@@ -71,7 +71,7 @@ unfolding past-by
 returns-in-Ended-clause-reached g c = λ bound writes n stands.
     let way = c.loop.invariant bound writes n stands in
     let goes = rw c.in-Ended.is at
-        (c.in_ok-moment.ensures c.args.depth c.args.bundle.now bound writes way.at way.stands) in
+    (c.in_ok-moment.ensures c.args.depth c.args.bundle.now bound writes way.at way.stands) in
     let past = past-by _ _ _ _ _ _ _ _ _ _ way _ c.go_on.new.machine _ goes in
     ends-there _ _ _ _ _ _ _ _ _ past c.in-Ended.outcome c.go_on.new.machine goes.goes_on
 
@@ -80,7 +80,7 @@ unfolding past-by
 returns-in-Ended-clause-breaks g c = λ bound writes n stands.
     let way = c.loop.invariant bound writes n stands in
     let goes = rw c.in-Ended.is at
-        (c.in_ok-moment.ensures c.args.depth c.args.bundle.now bound writes way.at way.stands) in
+    (c.in_ok-moment.ensures c.args.depth c.args.bundle.now bound writes way.at way.stands) in
     let past = past-by _ _ _ _ _ _ _ _ _ _ way _ c.go_on.new.machine _ goes in
     ends-with _ _ _ _ _ _ _ _ _ past c.in-Ended.outcome c.go_on.new.machine goes.goes_on
 
@@ -89,7 +89,7 @@ unfolding past-by
 returns-in-Ended-clause-of g c = λ bound writes n stands.
     let way = c.loop.invariant bound writes n stands in
     let goes = rw c.in-Ended.is at
-        (c.in_ok-moment.ensures c.args.depth c.args.bundle.now bound writes way.at way.stands) in
+    (c.in_ok-moment.ensures c.args.depth c.args.bundle.now bound writes way.at way.stands) in
     let past = past-by _ _ _ _ _ _ _ _ _ _ way _ c.go_on.new.machine _ goes in
     ends-of _ _ _ _ _ _ _ _ _ past c.in-Ended.outcome c.go_on.new.machine goes.goes_on
 
@@ -98,6 +98,6 @@ unfolding past-by
 returns-in-Ended-clause-counted g c = λ bound writes n stands.
     let way = c.loop.invariant bound writes n stands in
     let goes = rw c.in-Ended.is at
-        (c.in_ok-moment.ensures c.args.depth c.args.bundle.now bound writes way.at way.stands) in
+    (c.in_ok-moment.ensures c.args.depth c.args.bundle.now bound writes way.at way.stands) in
     let past = past-by _ _ _ _ _ _ _ _ _ _ way _ c.go_on.new.machine _ goes in
     counts-end _ _ _ _ _ _ _ _ _ past c.in-Ended.outcome c.go_on.new.machine goes.goes_on _ goes.counted

@@ -13,7 +13,7 @@ take_back-requires-clause-own g c =
     (λ answer. MatchResult answer (λ over. OnOk over.over (over.clerk.desk ≡ c.args.desk.now)) (λ task. ⊤))
     c.loop-answer.yielded c.in-Some.answer c.next.new.self.rest.items
     (subst (Each (λ answer. MatchResult answer (λ over. OnOk over.over (over.clerk.desk ≡ c.args.desk.now))
-        (λ task. ⊤)))
+    (λ task. ⊤)))
     (whole_at c.into_iter-answer-iterator.result c.loop-answer.yielded c.loop-answer.answer-iterator
     c.args.answers.items c.in-Some.answer c.next.new.self.rest.items c.loop-answer.yielded_by
     c.into_iter-answer-iterator.ensures.into_iter_gives.0 c.in-Some.ensures.steps.0) c.requires.own)

@@ -10,7 +10,7 @@ returns-then-lacks_twin-clause-served g c =
     (faults (g.D.Dialer.faults c.args.dialer.now) (g.D.Dialer.faults c.args.dialer.now))
     (faults (g.P.Spawner.faults c.args.spawner.now) (g.P.Spawner.faults c.args.spawner.now)) (omega arith)
     c.twins_of-asked.result.1.items c.twins_of-served.result.1.items c.twins_of-asked.result.0
-        c.twins_of-served.result.0
+    c.twins_of-served.result.0
     _ _ c.twins_of-asked.ensures c.twins_of-served.ensures (sym c.lacks_twin.ensures ∙ c.if-lacks_twin.true)
 
 pub returns-clause-served : goal.returns-clause-served

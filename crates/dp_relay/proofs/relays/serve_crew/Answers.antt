@@ -44,22 +44,27 @@ gather-requires-clause-room g c =
     ) in
     record {
       ides = omega (arith, all, c.in-Ok-account_of.ensures.room.ides, c.len-askers.ensures, c.len-servers.ensures);
-      engines = omega (arith, all, c.in-Ok-account_of.ensures.room.engines, c.len-askers.ensures,
-          c.len-servers.ensures);
+      engines = omega (
+        arith,
+        all,
+        c.in-Ok-account_of.ensures.room.engines,
+        c.len-askers.ensures,
+        c.len-servers.ensures,
+      );
     }
 
 pub end_of-requires-clause-share : goal.end_of-requires-clause-share
 end_of-requires-clause-share g c =
     let none : c.in-Ok.tasks.items ≡ [] = search rules in
     λ whole begun. sym (crew_shares g.G.Gate g.H.Gate g.D.Dialer g.P.Spawner (λ task. task.clerk) (λ task. task.port)
-        (λ task. task.count)
+    (λ task. task.count)
     (λ over. over.closed) (λ over. over.clerk) (λ over. over.over) c.args.clerk
     (Rose (g.P.Spawner.faults c.args.spawner.now) (g.P.Spawner.faults c.run_tasks.new.spawner)) c.args.ides.items
     c.args.engines.items c.args.sizes.registrations c.args.sizes.sessions c.in-Ok.tasks.items
     c.hire_ides.new.tasks.items c.hire_ides.new.clerk c.hire_engines.new.clerk c.hire_engines.new.tasks.items
     c.in-Ok-run_tasks.answers.items none c.hire_ides.ensures.hired c.hire_engines.ensures.hired
     c.in-Ok-run_tasks.ensures.done c.gather.new.clerk c.in-Ok-account_of.account c.gather.new.account
-        c.in-Ok-run_tasks.ensures.refused
+    c.in-Ok-run_tasks.ensures.refused
     c.gather.ensures.took
     (record {
       no_ides = c.in-Ok-account_of.ensures.ides;
@@ -77,16 +82,16 @@ returns-clause-crewed g c =
     c.args.sizes.sessions starts k.items c.end_of.result.2.items c.end_of.result.0) (sym c.end_of.ensures.ides)
     (subst (λ k. Crewed g.G.Gate g.H.Gate c.args.ides.items c.args.engines.items c.args.sizes.registrations
     c.args.sizes.sessions starts c.gather.new.account.ides.items k.items c.end_of.result.0)
-        (sym c.end_of.ensures.engines)
+    (sym c.end_of.ensures.engines)
     (crew_answered g.G.Gate g.H.Gate g.D.Dialer g.P.Spawner (λ task. task.clerk) (λ task. task.port)
-        (λ task. task.count)
+    (λ task. task.count)
     (λ over. over.closed) (λ over. over.clerk) (λ over. over.over) c.args.clerk
     (Rose (g.P.Spawner.faults c.args.spawner.now) (g.P.Spawner.faults c.run_tasks.new.spawner)) c.args.ides.items
     c.args.engines.items c.args.sizes.registrations c.args.sizes.sessions c.in-Ok.tasks.items
     c.hire_ides.new.tasks.items c.hire_ides.new.clerk c.hire_engines.new.clerk c.hire_engines.new.tasks.items
     c.in-Ok-run_tasks.answers.items none c.hire_ides.ensures.hired c.hire_engines.ensures.hired
     c.in-Ok-run_tasks.ensures.done c.gather.new.clerk c.in-Ok-account_of.account c.gather.new.account
-        c.in-Ok-run_tasks.ensures.refused
+    c.in-Ok-run_tasks.ensures.refused
     c.gather.ensures.took
     (record {
       no_ides = c.in-Ok-account_of.ensures.ides;

@@ -18,6 +18,6 @@ returns-in-Ok-answer_breakpoints-clause-turn c =
     c.in-Ok-answer_breakpoints.answered.response c.tell_behind.result
     (c.in-Ok.ensures.state ∙ ap program_of (sym c.self.view_is)) c.file-file.ensures
     (rw c.wishes-wishes.ensures at c.in-Ok-answer_breakpoints.ensures.accepted)
-        (rw c.wishes-wishes.ensures at c.in-Ok-answer_breakpoints.ensures.notice)
+    (rw c.wishes-wishes.ensures at c.in-Ok-answer_breakpoints.ensures.notice)
     (rw c.wishes-wishes.ensures at c.in-Ok-answer_breakpoints.ensures.response) c.in-Ok-answer_breakpoints.ensures.short
     (rw c.wishes-wishes.ensures at c.in-Ok-answer_breakpoints.ensures.table) c.tell_behind.ensures)
