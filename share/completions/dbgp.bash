@@ -18,7 +18,7 @@ _dbgp() {
     local word=${COMP_WORDS[COMP_CWORD]} command=${COMP_WORDS[1]} place first
     COMPREPLY=()
     if ((COMP_CWORD == 1)); then
-        mapfile -t COMPREPLY < <(compgen -W 'run talk engine ide replay soak show' -- "$word")
+        mapfile -t COMPREPLY < <(compgen -W 'run talk engine ide proxy replay soak show' -- "$word")
         return
     fi
     if ((COMP_CWORD == 2)) && [[ $word == -* && $command =~ ^(run|talk|engine|replay)$ ]]; then
@@ -26,6 +26,13 @@ _dbgp() {
         return
     fi
     place=$(_dbgp_place)
+    if [[ $command == proxy ]]; then
+        case $place in
+            0) mapfile -t COMPREPLY < <(compgen -W '9001' -- "$word") ;;
+            1) mapfile -t COMPREPLY < <(compgen -W '9000 9003' -- "$word") ;;
+        esac
+        return
+    fi
     case $command in
         run | replay) first=0 ;;
         talk | ide) first=1 ;;

@@ -25,6 +25,7 @@ complete -c dbgp -n __fish_use_subcommand -a run -d 'run a program of some files
 complete -c dbgp -n __fish_use_subcommand -a talk -d 'serve a session: commands on the input, packets on the output'
 complete -c dbgp -n __fish_use_subcommand -a engine -d 'connect to an IDE and serve it a session'
 complete -c dbgp -n __fish_use_subcommand -a ide -d 'wait for an engine and play a script'
+complete -c dbgp -n __fish_use_subcommand -a proxy -d 'join engines to the IDEs that registered their keys'
 complete -c dbgp -n __fish_use_subcommand -a replay -d 'play a proxy over a list of events'
 complete -c dbgp -n __fish_use_subcommand -a soak -d 'replay a list of events that is drawn, and print its numbers'
 complete -c dbgp -n __fish_use_subcommand -a show -d 'print framed packets, one a line'
@@ -35,6 +36,8 @@ complete -c dbgp -n '__dbgp_word_is engine 0' -a '127.0.0.1 localhost' -d host
 complete -c dbgp -n '__dbgp_word_is engine 1' -a '9000 9003' -d port
 complete -c dbgp -n '__dbgp_word_is ide 0' -a '9000 9003' -d port
 complete -c dbgp -n '__dbgp_word_is ide 1' -F
+complete -c dbgp -n '__dbgp_word_is proxy 0' -a 9001 -d 'port of IDEs'
+complete -c dbgp -n '__dbgp_word_is proxy 1' -a '9000 9003' -d 'port of engines'
 complete -c dbgp -n '__dbgp_files_from run 0' -F
 complete -c dbgp -n '__dbgp_files_from talk 1' -F
 complete -c dbgp -n '__dbgp_files_from engine 3' -F

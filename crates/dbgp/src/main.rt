@@ -1,8 +1,8 @@
 //! The program `dbgp`: hands its words, files, standard streams and network to the top call, and ends with its answer.
 #![tactic(auto)]
 
-use dp_adapters::{FileShelf, ReaderSource, TcpNet, WriterSink};
-use dp_outside::{NoSpawner, Sink};
+use dp_adapters::{FileShelf, ReaderSource, TcpNet, ThreadSpawner, WriterSink};
+use dp_outside::Sink;
 use dp_top::top;
 use std::alloc::{AllocError, Global};
 use std::fs::{Files, OpenOptions};
@@ -80,7 +80,7 @@ fn call<
     let mut out = WriterSink::new(stdout);
     let mut err = WriterSink::new(stderr);
     let mut net = TcpNet::new(rt, Duration::from_secs(FIRST_BYTE_SECONDS));
-    let mut spawner: NoSpawner<R> = NoSpawner::new();
+    let mut spawner = ThreadSpawner::new(rt);
     top(
         rt,
         rt.alloc(),

@@ -25,11 +25,13 @@ at_host host address = record { host = host; port = address.port }
 -- a dial that failed
 pub not_given : (address : Address) (host : List ℕ) (old new : Net) → host ≡ address.host
     → new.dials ≡ grown old.dials (dial_of (at_host host address) None ∷ []) → new.retired ≡ old.retired
-    → Rose old.faults new.faults
+    → new.requested ≡ old.requested → new.shut ≡ old.shut → Rose old.faults new.faults
     → new.returned ≡ old.returned → IsUndialled address old new
-not_given address host old new same dialled retired rose returned = record {
+not_given address host old new same dialled retired requested shut rose returned = record {
   dialled = dialled ∙ ap (λ (h : List ℕ). grown old.dials (dial_of (at_host h address) None ∷ [])) same;
   retired = retired;
+  requested = requested;
+  shut = shut;
   faults = rose;
   returned = returned;
 }
@@ -38,14 +40,14 @@ not_given address host old new same dialled retired rose returned = record {
 pub taken_back : (address : Address) (host : List ℕ) (given back : Link) (first source last sink : ℕ)
     (old over new : Net) → host ≡ address.host → first ≡ 0 → last ≡ 0
     → over.dials ≡ grown old.dials (dial_of (at_host host address) (Some given) ∷ []) → over.retired ≡ old.retired
-    → old.faults ≤ over.faults
+    → over.requested ≡ old.requested → over.shut ≡ old.shut → old.faults ≤ over.faults
     → over.returned ≡ old.returned → new.dials ≡ over.dials → new.retired ≡ grown over.retired (back ∷ [])
-    → new.faults ≡ over.faults
+    → new.requested ≡ over.requested → new.shut ≡ over.shut → new.faults ≡ over.faults
     → CountsReturned (source + sink) over.returned new.returned
     → IsDialled address (record { told_before = given.left; told = back.left; faults_before = first; faults = source })
     (record { told_before = given.taken; told = back.taken; faults_before = last; faults = sink }) old new
-taken_back address host given back first source last sink old over new same none nothing dials kept later returned told
-    came stays counts = record {
+taken_back address host given back first source last sink old over new same none nothing dials kept asked closed later
+    returned told came requested shut stays counts = record {
       given = given;
       back = back;
       used = record {
@@ -56,6 +58,8 @@ taken_back address host given back first source last sink old over new same none
       dialled =
           told ∙ dials ∙ ap (λ (h : List ℕ). grown old.dials (dial_of (at_host h address) (Some given) ∷ [])) same;
       retired = came ∙ ap (λ r. grown r (back ∷ [])) kept;
+      requested = requested ∙ asked;
+      shut = shut ∙ closed;
       faults = omega (arith, later, stays);
       returned = subst (λ (n : ℕ). CountsReturned (source + sink) n new.returned) returned counts;
     }

@@ -1,8 +1,8 @@
 -- What playing a script over a link came to decides the end of `ide`.
-use Rattle.std.proofs.Common.{◌≡◌, ◌⊎◌, inl, inr, true, ℕ, ◌+◌, ◌<◌, ◌≤◌, List, [], ◌∷◌, ◌++◌, length, Option, None, Some, IsSome, Result, Ok, Err, refl, sym, ap, ◌∙◌, subst, arith}
+use Rattle.std.proofs.Common.{◌≡◌, ◌⊎◌, inl, inr, Bool, true, false, ℕ, ◌+◌, ◌<◌, ◌≤◌, List, [], ◌∷◌, ◌++◌, length, Option, None, Some, IsSome, Result, Ok, Err, refl, sym, ap, ◌∙◌, subst, arith}
 use Rattle.std.specs.Prelude.{MatchResult, IfOk, IfErr}
 use Rattle.dp_outside.specs.Causes.{Rose}
-use Rattle.dp_outside.specs.Changes.{Change, IsUntouched}
+use Rattle.dp_outside.specs.Changes.{Change}
 use Rattle.dp_outside.specs.Links.{CountsReturned, Door, Link}
 use Rattle.dp_outside.specs.Reports.{BeginsEmpty, grown}
 use Rattle.dp_program.specs.Programs.{Files}
@@ -19,38 +19,25 @@ use Rattle.dp_top.specs.Engine.{IsApart, IsIdle}
 use Rattle.dp_top.specs.Failures.{status_of}
 use Rattle.dp_top.specs.Ide.{IdeFails, IsNoScript, IsPlayed, IsScriptFile, Plays, failure_of}
 use Rattle.dp_top.specs.Lines.{IsBadAt, Unread, lines_limit}
-use Rattle.dp_top.specs.Links.{IsAccepted, IsGated, IsUncalled, ReportsLinks}
+use Rattle.dp_top.specs.Links.{IsAccepted, IsGated, IsUncalled, Reports}
 use Rattle.dp_top.specs.Seen.{Net, NoneRose, Seen, changed}
 use Rattle.dp_top.specs.Tasks.{Caused, Does}
 use Rattle.dp_top.specs.inner.BadLines.{UnreadSo}
-use Rattle.dp_top.specs.inner.Gated.{Called, DoorSeen, GatedSo, IsReportedBy, MetSo, NoCall, PlayedSo}
+use Rattle.dp_top.specs.inner.Gated.{Called, DoorSeen, GatedSo, IsReportedBy, MetSo, PlayedSo}
 use Rattle.dp_top.proofs.LineLaws.{held_or_lacking, same_content}
 use Rattle.dp_top.proofs.TaskLaws.{one_task, returned_rose}
 use Rattle.dp_words.specs.Words.{IsInvocation, IsIde, Task, ide}
 
 -- ---- a gate
 
-tells_none : (told : Option (List Link)) → BeginsEmpty told → ReportsLinks told []
-tells_none None empty = tt
-tells_none (Some told) empty = empty
-
-tells_grown : (told : Option (List Link)) (links : List Link) → BeginsEmpty told → ReportsLinks (grown told links) links
-tells_grown None links empty = tt
-tells_grown (Some told) links empty = ap (λ (l : List Link). l ++ links) empty
-
-pub no_call : (old new : DoorSeen) (out : Change) → BeginsEmpty old.accepted → BeginsEmpty old.retired → old.faults ≡ 0
-    → new.accepted ≡ grown old.accepted [] → new.retired ≡ old.retired
-    → Rose old.faults new.faults → IsUntouched out → NoCall new out
-no_call old new out gave took none given back rose stays = record {
-  gave = subst (λ (t : Option (List Link)). ReportsLinks t []) (sym given) (tells_grown old.accepted [] gave);
-  took = subst (λ (t : Option (List Link)). ReportsLinks t []) (sym back) (tells_none old.retired took);
-  failed = omega (arith, rose, none);
-  out_stays = stays;
-}
+tells_grown : {A : Type 0} (told : Option (List A)) (more : List A) → BeginsEmpty told → Reports (grown told more) more
+tells_grown None more empty = tt
+tells_grown (Some told) more empty = ap (λ (l : List _). l ++ more) empty
 
 pub called : (end : Result (Unit {0}) IdeError) (instructions : List Instruction) (given back : Link)
     (first read last sent : ℕ) (old over new : DoorSeen) (out : Change)
-    → first ≡ 0 → last ≡ 0 → BeginsEmpty old.accepted → BeginsEmpty old.retired
+    → first ≡ 0 → last ≡ 0 → BeginsEmpty old.accepts → BeginsEmpty old.accepted → BeginsEmpty old.retired
+    → over.accepts ≡ grown old.accepts (true ∷ []) → new.accepts ≡ over.accepts
     → over.accepted ≡ grown old.accepted (given ∷ []) → over.retired ≡ old.retired
     → new.accepted ≡ over.accepted → new.retired ≡ grown over.retired (back ∷ [])
     → CountsReturned (read + sent) over.returned new.returned
@@ -62,8 +49,8 @@ pub called : (end : Result (Unit {0}) IdeError) (instructions : List Instruction
     })
     (record { told_before = given.taken; told = back.taken; faults_before = last; faults = sent }) out
     → Called end instructions new out
-called end instructions given back first read last sent old over new out none nothing gave took given_is kept same came
-    counts ended = record {
+called end instructions given back first read last sent old over new out none nothing unasked gave took asks still
+    given_is kept same came counts ended = record {
       given = given;
       back = back;
       source = record { told_before = given.left; told = back.left; faults_before = first; faults = read };
@@ -73,11 +60,14 @@ called end instructions given back first read last sent old over new out none no
         sink_is =
             λ i. record { told_before = given.taken; told = back.taken; faults_before = nothing i; faults = sent };
       };
+      accepts =
+          subst (λ (t : Option (List Bool)). Reports t (true ∷ [])) (sym (still ∙ asks))
+          (tells_grown old.accepts (true ∷ []) unasked);
       gave =
-          subst (λ (t : Option (List Link)). ReportsLinks t (given ∷ [])) (sym (same ∙ given_is))
+          subst (λ (t : Option (List Link)). Reports t (given ∷ [])) (sym (same ∙ given_is))
           (tells_grown old.accepted (given ∷ []) gave);
       took =
-          subst (λ (t : Option (List Link)). ReportsLinks t (back ∷ []))
+          subst (λ (t : Option (List Link)). Reports t (back ∷ []))
           (sym (came ∙ ap (λ (t : Option (List Link)). grown t (back ∷ [])) kept))
           (tells_grown old.retired (back ∷ []) took);
       counted =
@@ -85,25 +75,30 @@ called end instructions given back first read last sent old over new out none no
       ends = ended;
     }
 
+abbrev door_told : ℕ → DoorSeen → Door
+door_told at door =
+    record { port = at; accepts = door.accepts; accepted = door.accepted; retired = door.retired }
+
 module _ (port at : ℕ) (door : DoorSeen) (old over new : Net) (at_port : at ≡ port) (dials : over.dials ≡ old.dials)
     (retired : over.retired ≡ old.retired)
     (requested : over.requested ≡ grown old.requested ((port, true) ∷ [])) (shut : over.shut ≡ old.shut)
     (returned : over.returned ≡ old.returned) (later : old.faults ≤ over.faults) (dials_2 : new.dials ≡ over.dials)
     (retired_2 : new.retired ≡ over.retired) (requested_2 : new.requested ≡ over.requested)
-    (shut_2 : new.shut ≡ grown over.shut (record { port = at; accepted = door.accepted; retired = door.retired } ∷ []))
+    (shut_2 : new.shut ≡ grown over.shut (door_told at door ∷ []))
     (faults : new.faults ≡ over.faults)
     (counts : CountsReturned (door.faults + door.returned) over.returned new.returned) where
-  was_gated : (given back : List Link) → ReportsLinks door.accepted given → ReportsLinks door.retired back
-      → IsGated port given back (door.faults + door.returned) old new
-  was_gated given back gave took = record {
-    door = record { port = at; accepted = door.accepted; retired = door.retired };
+  was_gated : (accepts : List Bool) (given back : List Link) → Reports door.accepts accepts
+      → Reports door.accepted given → Reports door.retired back
+      → IsGated port accepts given back (door.faults + door.returned) old new
+  was_gated accepts given back asked gave took = record {
+    door = door_told at door;
     at = at_port;
     requested = requested_2 ∙ requested;
+    accepts = asked;
     gave = gave;
     took = took;
     shut =
-        shut_2 ∙ ap (λ (t : Option (List Door)). grown t (record
-        { port = at; accepted = door.accepted; retired = door.retired } ∷ [])) shut;
+        shut_2 ∙ ap (λ (t : Option (List Door)). grown t (door_told at door ∷ [])) shut;
     dials = dials_2 ∙ dials;
     retired = retired_2 ∙ retired;
     faults = omega (arith, later, faults);
@@ -116,8 +111,7 @@ module _ (port at : ℕ) (door : DoorSeen) (old over new : Net) (at_port : at �
     inr (record {
       failed = door.faults + door.returned;
       counted = omega (arith, met.failed);
-      gated = was_gated []
-          [] met.gave met.took;
+      gated = was_gated (false ∷ []) [] [] met.accepts met.gave met.took;
     }),
     met.out_stays,
   )
@@ -130,7 +124,7 @@ module _ (port at : ℕ) (door : DoorSeen) (old over new : Net) (at_port : at �
       used = met.used;
       failed = door.faults + door.returned;
       counted = met.counted;
-      gated = was_gated (met.given ∷ []) (met.back ∷ []) met.gave met.took;
+      gated = was_gated (true ∷ []) (met.given ∷ []) (met.back ∷ []) met.accepts met.gave met.took;
     };
     ends = met.ends;
   }

@@ -6,5 +6,7 @@ pub mod TopLaws
 pub mod EngineLaws
 pub mod LineLaws
 pub mod IdeLaws
+pub mod TellingLaws
+pub mod ProxyLaws
 pub mod ReplayLaws
 pub mod ReplayReports

@@ -62,7 +62,7 @@ both : (a b : Bool) → (a && b) ≡ true → (a ≡ true) × (b ≡ true)
 both false b h = absurd cc
 both true b h = (refl, h)
 
-decimal_below : (most n : ℕ) (word : List ℕ) → decimal_in most word ≡ Some n → n ≤ most
+pub decimal_below : (most n : ℕ) (word : List ℕ) → decimal_in most word ≡ Some n → n ≤ most
 unfolding decimal_in
 decimal_below most n word e = by (is_decimal word && nat_le (digits_value 10 word) most) refl e where
   by : (t : Bool) → (is_decimal word && nat_le (digits_value 10 word) most) ≡ t

@@ -26,17 +26,19 @@ use Rattle.dp_program.specs.Runs.{RunCaused}
 use Rattle.dp_state.specs.declared.moments.Outcome.{Outcome}
 use Rattle.dp_state.specs.declared.moments.Outcome.TheVariants as way
 use Rattle.dp_top.specs.declared.failures.Refused.{Refused}
-use Rattle.dp_words.specs.Words.{Address, Invocation, IsEngine, IsRun, IsSoak, IsTalk, Task, run, talk, engine, ide, replay, soak, show, IsInvocation, invocation_in, invocation_of, port_of, seed_limit, session_count_of, uses_net, uses_shelf}
+use Rattle.dp_words.specs.Words.{Address, Invocation, IsEngine, IsProxy, IsRun, IsSoak, IsTalk, Service, Task, run, talk, engine, ide, replay, soak, proxy, show, IsInvocation, invocation_in, invocation_of, port_of, seed_limit, served_count_of, session_count_of, uses_net, uses_shelf, uses_spawner}
 use Rattle.dp_outside.specs.Links.{CountsReturned}
 use Rattle.dp_top.specs.Engine.{EngineFails, EndsSo as EngineEnds}
 use Rattle.dp_top.specs.Links.{IsDialled}
 use Rattle.dp_top.specs.Failures.{status_of, line_of, Says}
 use Rattle.dp_top.specs.Ide.{IdeFails}
+use Rattle.dp_relay.specs.Relays.{Faults, faults}
+use Rattle.dp_top.specs.Proxy.{HasFailed, ProxyCause, ProxyFails}
 use Rattle.dp_top.specs.Replay.{ReplayFails}
 use Rattle.dp_world.specs.declared.errors.ReplayError.TheVariants as replayed
 use Rattle.dp_top.specs.Runs.{RunFails, failure_of as failure_told, program_failure}
 use Rattle.dp_top.specs.inner.Completeness.{AreComplete, IsBadSource, IsGood}
-use Rattle.dp_top.specs.Seen.{NoneRose, Seen, Stream, changed}
+use Rattle.dp_top.specs.Seen.{Net, NoneRose, Seen, Stream, changed}
 use Rattle.dp_top.specs.Soak.{SoakFails}
 use Rattle.dp_top.specs.Talk.{EndReport, EndsSo, TalkFails, ended, judged_by}
 use Rattle.dp_top.specs.Tasks.{failure_of, ShowCaused, Does, Caused, Fails, IsFetchedFor, before_line}
@@ -69,6 +71,13 @@ asked_soak (number ∷ drawn ∷ []) =
     (session_count_of number)
 asked_soak words = None
 
+abbrev asked_proxy : List (List ℕ) → Option Task
+asked_proxy (ides ∷ engines ∷ registrations ∷ sessions ∷ []) =
+    option_and_then (λ a. option_and_then (λ b. option_and_then (λ c. option_map (λ d.
+    proxy (record { ides = a; engines = b; registrations = c; sessions = d })) (served_count_of sessions))
+    (served_count_of registrations)) (port_of engines)) (port_of ides)
+asked_proxy words = None
+
 abbrev asked_behind : (ℕ → List (List ℕ) → Option Task) → List (List ℕ) → Option Task
 asked_behind asked behind =
     option_and_then (λ (ask : Invocation). asked ask.bound ask.names) (invocation_of behind)
@@ -81,7 +90,8 @@ asked_by name behind =
     else (if bytes_eq name (codes "engine") then asked_behind asked_engine behind
     else (if bytes_eq name (codes "ide") then asked_ide behind
     else (if bytes_eq name (codes "replay") then asked_behind asked_replay behind
-    else (if bytes_eq name (codes "soak") then asked_soak behind else Some show)))))
+    else (if bytes_eq name (codes "soak") then asked_soak behind
+    else (if bytes_eq name (codes "proxy") then asked_proxy behind else Some show))))))
 
 abbrev asked : List (List ℕ) → Option Task
 asked [] = None
@@ -105,6 +115,23 @@ asked_so words (soak count seed) h =
     ap asked h.words_are
     ∙ ap (option_and_then (λ n. option_map (λ d. soak n d) (decimal_in seed_limit h.drawn))) h.is_count
     ∙ ap (option_map (λ d. soak count d)) h.is_seed
+asked_so words (proxy service) h =
+    ap asked h.words_are
+    ∙ ap (option_and_then (λ a. option_and_then (λ b. option_and_then (λ c. option_map (λ d.
+    proxy (record { ides = a; engines = b; registrations = c; sessions = d })) (served_count_of h.sessions))
+    (served_count_of h.registrations)) (port_of h.engines))) h.is_ides
+    ∙ ap (option_and_then (λ b. option_and_then (λ c. option_map (λ d.
+    proxy (record { ides = service.ides; engines = b; registrations = c; sessions = d })) (served_count_of h.sessions))
+    (served_count_of h.registrations))) h.is_engines
+    ∙ ap (option_and_then (λ c. option_map (λ d.
+    proxy (record { ides = service.ides; engines = service.engines; registrations = c; sessions = d }))
+    (served_count_of h.sessions))) h.is_registrations
+    ∙ ap (option_map (λ d. proxy (record {
+      ides = service.ides;
+      engines = service.engines;
+      registrations = service.registrations;
+      sessions = d;
+    }))) h.is_sessions
 asked_so words show h = ap asked h
 
 -- the words ask for one task
@@ -149,6 +176,7 @@ memory_name (engine address key ask) name = name
 memory_name (ide port script) name = name
 memory_name (replay events ask) name = name
 memory_name (soak count seed) name = name
+memory_name (proxy service) name = name
 memory_name show name = name
 
 -- memory ran out once a session was served, or there was none
@@ -189,6 +217,15 @@ soak_starved : (failed : Failure) (name : List ℕ) (count seed : ℕ) (out : Ch
 soak_starved failed name count seed out (inl memory) = inl (refl, memory.1)
 soak_starved failed name count seed out (inr h) = inl (refl, inr h.2)
 
+proxy_starved : (failed : Failure) (name : List ℕ) (service : Service) (out : Change) (old new : Net) (starts : Faults)
+    → ProxyFails failed name service out old new starts
+    → ProxyFails failure.Memory name service out old new starts
+proxy_starved failed name service out old new starts h = (h.0, by h.1) where
+  by : ProxyCause failed service out old new starts → ProxyCause failure.Memory service out old new starts
+  by (inl memory) = inl (refl, memory.1)
+  by (inr (inl network)) = inl (refl, inl (network.1.end, network.1.undone))
+  by (inr (inr output)) = inl (refl, inr (inr output.1))
+
 -- out of memory may come in place of any failure
 memory_instead : (failed : Failure) (name : List ℕ) (task : Task) (old new : Seen) → Caused failed name task old new
     → Caused failure.Memory (memory_name task name) task old new
@@ -201,6 +238,8 @@ memory_instead failed name (replay events ask) old new h =
     (replay_starved failed name events ask _ _ _ _ h.0, h.1, h.2, h.3)
 memory_instead failed name (soak count seed) old new h =
     (soak_starved failed name count seed _ h.0, h.1, h.2, h.3)
+memory_instead failed name (proxy service) old new h =
+    (proxy_starved failed name service _ _ _ _ h.0, h.1, h.2)
 memory_instead failed name show old new h = (h.0, show_cut failed _ _ h.1, h.2, h.3)
 
 -- the failure is told, or there is no memory for its line
@@ -479,6 +518,7 @@ done_offline status (engine address key ask) old new h e = absurd cc
 done_offline status (ide port script) old new h e = absurd cc
 done_offline status (replay events ask) old new h e = h.3
 done_offline status (soak count seed) old new h e = h.3
+done_offline status (proxy service) old new h e = absurd cc
 done_offline status show old new h e = h.3
 
 caused_offline : (failed : Failure) (name : List ℕ) (task : Task) (old new : Seen) → Caused failed name task old new
@@ -489,6 +529,7 @@ caused_offline failed name (engine address key ask) old new h e = absurd cc
 caused_offline failed name (ide port script) old new h e = absurd cc
 caused_offline failed name (replay events ask) old new h e = h.3
 caused_offline failed name (soak count seed) old new h e = h.3
+caused_offline failed name (proxy service) old new h e = absurd cc
 caused_offline failed name show old new h e = h.3
 
 pub asks_offline : (words : List (List ℕ)) (task other : Task) → IsInvocation words task → IsInvocation words other
@@ -599,6 +640,11 @@ pub asks_unshelved : (words : List (List ℕ)) (task other : Task) → IsInvocat
     → uses_shelf other ≡ false → uses_shelf task ≡ false
 asks_unshelved words task other p q e = ap uses_shelf (one_task words task other p q) ∙ e
 
+-- nor starts threads
+pub asks_unspawned : (words : List (List ℕ)) (task other : Task) → IsInvocation words task → IsInvocation words other
+    → uses_spawner other ≡ false → uses_spawner task ≡ false
+asks_unspawned words task other p q e = ap uses_spawner (one_task words task other p q) ∙ e
+
 -- what was shown well has the status 0
 pub shows_well : (status : ℕ) (words : List (List ℕ)) (task : Task) (old new : Seen) → IsInvocation words task
     → Does status task old new → IsInvocation words show → status ≡ 0
@@ -618,6 +664,7 @@ none_fetched (engine address key ask) told = nothing_fetched (Some ask) told
 none_fetched (ide port script) told = (0, grown_by_none told)
 none_fetched (replay events ask) told = (0, grown_by_none told)
 none_fetched (soak count seed) told = refl
+none_fetched (proxy service) told = refl
 none_fetched show told = refl
 
 -- ---- `soak`
@@ -643,3 +690,33 @@ pub soaks_well : (status : ℕ) (words : List (List ℕ)) (task : Task) (old new
     → Does status task old new → (count seed : ℕ) → IsSoak words count seed → status ≡ 0
 soaks_well status words task old new asks does count seed is =
     (subst (λ (t : Task). Does status t old new) (one_task words task (soak count seed) asks is) does).0.is_status
+
+-- ---- `proxy`
+
+-- where no count rose, what fails is memory
+pub complete_proxy_told : (status : ℕ) (words : List (List ℕ)) (task : Task) (old new : Seen) (refused : Refused)
+    (A B : Type 0) → IsInvocation words task
+    → Caused refused.failure refused.name.now task old new
+    → ((status ≡ status_of refused.failure) × A) ⊎ ((status ≡ 209) × B)
+    → (service : Service) → IsProxy words service → NoneRose old new → (status ≡ 0) ⊎ (status ≡ 209)
+complete_proxy_told status words task old new refused A B asks caused told service is none =
+    by told (subst (λ (t : Task). Caused refused.failure refused.name.now t old new)
+    (one_task words task (proxy service) asks is) caused).0.1 where
+      unfailed : HasFailed old.net new.net (faults old.spawner.faults new.spawner.faults) → ⊥
+      unfailed (inl net) = none.net_not net
+      unfailed (inr (inl returned)) = none.returned_not returned
+      unfailed (inr (inr spawner)) = none.spawner_not spawner
+
+      by : ((status ≡ status_of refused.failure) × A) ⊎ ((status ≡ 209) × B)
+          → ProxyCause refused.failure service (changed old.out new.out) old.net new.net
+          (faults old.spawner.faults new.spawner.faults) → (status ≡ 0) ⊎ (status ≡ 209)
+      by (inr t) fails = inr t.0
+      by (inl t) (inl memory) = inr (t.0 ∙ ap status_of memory.0)
+      by (inl t) (inr (inl network)) = absurd (unfailed network.1.failed)
+      by (inl t) (inr (inr output)) = absurd (none.out_not output.1.fault)
+
+-- what was served well has the status 0
+pub proxies_well : (status : ℕ) (words : List (List ℕ)) (task : Task) (old new : Seen) → IsInvocation words task
+    → Does status task old new → (service : Service) → IsProxy words service → status ≡ 0
+proxies_well status words task old new asks does service is =
+    (subst (λ (t : Task). Does status t old new) (one_task words task (proxy service) asks is) does).0.is_status

@@ -1,6 +1,6 @@
 -- The answer of the top call, by how it came to it.
 use Rattle.std.proofs.Common.{◌≡◌, ◌⊎◌, ℕ, ◌<◌, ◌≤◌, false, List, Ok, Err, refl, arith, inl, inr, codes}
-use Rattle.dp_words.specs.Words.{IsInvocation, Task, run, talk, engine, ide, replay, soak, show}
+use Rattle.dp_words.specs.Words.{IsInvocation, Task, run, talk, engine, ide, replay, soak, proxy, show}
 use Rattle.dp_words.specs.Plain.{are_plain}
 use Rattle.dp_top.specs.declared.failures.Refused.{Refused}
 use Rattle.dp_top.specs.Failures.{status_of, line_of, Says}
@@ -10,7 +10,7 @@ use Rattle.dp_top.specs.Top.{Answers}
 use Rattle.dp_top.specs.inner.Carried.{IsCarriedOut}
 use Rattle.dp_top.proofs.IdeLaws.{complete_ide_told, plays_well, script_held_told, script_refused_done, script_refused_told}
 use Rattle.dp_top.proofs.ReplayReports.{asks_replay, complete_replay_told, list_held_told, list_refused_done, list_refused_told, replays_well}
-use Rattle.dp_top.proofs.TaskLaws.{asks_fetched, asks_program, asks_unshelved, complete_engine_told, complete_run_told, complete_show_fails, complete_soak_told, complete_talk_told, fails_told, none_fetched, offline_caused, offline_done, refused_told, shows_well, soaks_well, told_above}
+use Rattle.dp_top.proofs.TaskLaws.{asks_fetched, asks_program, asks_unshelved, complete_engine_told, complete_proxy_told, complete_run_told, complete_show_fails, complete_soak_told, complete_talk_told, fails_told, none_fetched, asks_unspawned, offline_caused, offline_done, proxies_well, refused_told, shows_well, soaks_well, told_above}
 
 -- the words ask for nothing, which is said
 pub usage_answers : (words : List (List ℕ)) (old : Seen) (err : Stream)
@@ -26,6 +26,7 @@ usage_answers words old err none says later = record {
   usage_out = λ same. (refl, refl);
   usage_shelf = λ same. refl;
   usage_net = λ same. refl;
+  usage_spawner = λ same. refl;
   done = λ low. absurd (omega (arith, low));
   fails = λ high. absurd (omega (arith, high));
   complete_run = λ ask program is made still. absurd (none (run ask) is);
@@ -41,16 +42,19 @@ usage_answers words old err none says later = record {
   replay_refused = λ events ask list why is held makes. absurd (none (replay events ask) is);
   complete_replay = λ events ask list program is held makes still. absurd (none (replay events ask) is);
   complete_soak = λ count seed is still. absurd (none (soak count seed) is);
+  complete_proxy = λ service is still. absurd (none (proxy service) is);
   unshelved = λ task is off. refl;
   fetched = λ task is. none_fetched task old.shelf.fetched;
   files = refl;
   offline = λ task is off. refl;
+  unspawned = λ task is off. refl;
   shelf_later = omega arith;
   input_later = omega arith;
   out_later = omega arith;
   err_later = later;
   net_later = omega arith;
   returned_later = omega arith;
+  spawner_later = omega arith;
 }
 
 -- memory ran out as the words were read, which is said
@@ -66,6 +70,7 @@ unread_answers words old err plain says later = record {
   usage_out = λ same. (refl, refl);
   usage_shelf = λ same. refl;
   usage_net = λ same. refl;
+  usage_spawner = λ same. refl;
   done = λ low. absurd (omega (arith, low));
   fails = λ high. inr (record {
     is_status = refl;
@@ -73,6 +78,7 @@ unread_answers words old err plain says later = record {
     input = (refl, refl);
     out = (refl, refl);
     net = refl;
+    spawner = refl;
     says = says;
   });
   complete_run = λ ask program is made still. inr (inr refl);
@@ -88,16 +94,19 @@ unread_answers words old err plain says later = record {
   replay_refused = λ events ask list why is held makes. inr (inl refl);
   complete_replay = λ events ask list program is held makes still. inr refl;
   complete_soak = λ count seed is still. inr refl;
+  complete_proxy = λ service is still. inr refl;
   unshelved = λ task is off. refl;
   fetched = λ task is. none_fetched task old.shelf.fetched;
   files = refl;
   offline = λ task is off. refl;
+  unspawned = λ task is off. refl;
   shelf_later = omega arith;
   input_later = omega arith;
   out_later = omega arith;
   err_later = later;
   net_later = omega arith;
   returned_later = omega arith;
+  spawner_later = omega arith;
 }
 
 -- what the words ask for went well
@@ -113,6 +122,7 @@ done_answers status words task old new asks plain carried = record {
   usage_out = λ same. absurd (omega (arith, carried.status, same));
   usage_shelf = λ same. absurd (omega (arith, carried.status, same));
   usage_net = λ same. absurd (omega (arith, carried.status, same));
+  usage_spawner = λ same. absurd (omega (arith, carried.status, same));
   done = λ low. record { task = task; asks = asks; does = carried.ends };
   fails = λ high. absurd (omega (arith, carried.status, high));
   complete_run = λ ask program is made still. inl carried.status;
@@ -135,16 +145,19 @@ done_answers status words task old new asks plain carried = record {
   complete_replay = λ events ask list program is held makes still.
       inl (replays_well status words task old new asks carried.ends events ask is);
   complete_soak = λ count seed is still. inl (soaks_well status words task old new asks carried.ends count seed is);
+  complete_proxy = λ service is still. inl (proxies_well status words task old new asks carried.ends service is);
   unshelved = λ other is off. carried.unshelved (asks_unshelved words task other asks is off);
   fetched = λ other is. asks_fetched words task other old.shelf.fetched new.shelf.fetched asks carried.fetched is;
   files = carried.goes_on.files;
   offline = λ other is off. offline_done status words task other old new asks carried.ends is off;
+  unspawned = λ other is off. carried.unspawned (asks_unspawned words task other asks is off);
   shelf_later = carried.goes_on.shelf;
   input_later = carried.goes_on.input;
   out_later = carried.goes_on.out;
   err_later = carried.goes_on.err;
   net_later = carried.goes_on.net;
   returned_later = carried.goes_on.returned;
+  spawner_later = carried.goes_on.spawner;
 }
 
 -- it failed, and that is said; the error output was `err` before
@@ -169,6 +182,7 @@ module _ (status : ℕ) (words : List (List ℕ)) (task : Task) (refused : Refus
     err_not = λ rose. still.err_not (omega (arith, rose, later));
     net_not = still.net_not;
     returned_not = still.returned_not;
+    spawner_not = still.spawner_not;
   }
 
   failed : Fails status words old new
@@ -184,6 +198,7 @@ module _ (status : ℕ) (words : List (List ℕ)) (task : Task) (refused : Refus
     usage_out = λ same. absurd (omega (arith, high, same));
     usage_shelf = λ same. absurd (omega (arith, high, same));
     usage_net = λ same. absurd (omega (arith, high, same));
+    usage_spawner = λ same. absurd (omega (arith, high, same));
     done = λ low. absurd (omega (arith, high, low));
     fails = λ above. inl failed;
     complete_run = λ ask program is made still.
@@ -217,15 +232,20 @@ module _ (status : ℕ) (words : List (List ℕ)) (task : Task) (refused : Refus
     complete_soak = λ count seed is still.
         complete_soak_told status words task old mid refused _ _ asks carried.ends told count seed is
         (still_before still);
+    complete_proxy = λ service is still.
+        complete_proxy_told status words task old mid refused _ _ asks carried.ends told service is
+        (still_before still);
     unshelved = λ other is off. carried.unshelved (asks_unshelved words task other asks is off);
     fetched = λ other is. asks_fetched words task other old.shelf.fetched new.shelf.fetched asks carried.fetched is;
     files = carried.goes_on.files;
     offline = λ other is off.
         offline_caused refused.failure refused.name.now words task other old mid asks carried.ends is off;
+    unspawned = λ other is off. carried.unspawned (asks_unspawned words task other asks is off);
     shelf_later = carried.goes_on.shelf;
     input_later = carried.goes_on.input;
     out_later = carried.goes_on.out;
     err_later = omega (arith, carried.goes_on.err, later);
     net_later = carried.goes_on.net;
     returned_later = carried.goes_on.returned;
+    spawner_later = carried.goes_on.spawner;
   }

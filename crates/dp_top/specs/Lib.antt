@@ -5,6 +5,7 @@ pub mod Failures
 pub mod Ide
 pub mod Replay
 pub mod Links
+pub mod Proxy
 pub mod Runs
 pub mod Seen
 pub mod Soak

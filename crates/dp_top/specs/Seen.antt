@@ -3,6 +3,7 @@ use Rattle.std.specs.Prelude.{ℕ, Bool, List, Option}
 use Rattle.dp_outside.specs.Causes.{Rose}
 use Rattle.dp_outside.specs.Changes.{Change}
 use Rattle.dp_outside.specs.Links.{Dial, Door, Link}
+use Rattle.dp_outside.specs.declared.jobs.Spawner as spawner_of
 use Rattle.dp_outside.specs.declared.links.Dialer as dialer_of
 use Rattle.dp_outside.specs.declared.shelves.Shelf as shelf_of
 use Rattle.dp_outside.specs.declared.sinks.Sink as sink_of
@@ -30,12 +31,19 @@ pub record Net : Type 0 where
   pub faults : ℕ
   pub returned : ℕ
 
+-- what starts threads: of each start that was asked for, whether it was granted, where it tells
+-- that, and how often it has failed
+pub record Spawner : Type 0 where
+  pub starts : Option (List Bool)
+  pub faults : ℕ
+
 pub record Seen : Type 0 where
   pub shelf : Shelf
   pub input : Stream
   pub out : Stream
   pub err : Stream
   pub net : Net
+  pub spawner : Spawner
 
 abbrev pub net_seen : {N In Out : Type 0} → dialer_of.Ghosts N In Out → N → Net
 net_seen d net = record {
@@ -47,15 +55,16 @@ net_seen d net = record {
   returned = d.returned net;
 }
 
-abbrev pub seen : {H S K E N In Out : Type 0}
+abbrev pub seen : {H S K E N In Out P Rt : Type 0}
     → shelf_of.Ghosts H → source_of.Ghosts S → sink_of.Ghosts K → sink_of.Ghosts E
-    → dialer_of.Ghosts N In Out → H → S → K → E → N → Seen
-seen h s k e d shelf input out err net = record {
+    → dialer_of.Ghosts N In Out → spawner_of.Ghosts P Rt → H → S → K → E → N → P → Seen
+seen h s k e d p shelf input out err net spawner = record {
   shelf = record { files = h.files shelf; fetched = h.fetched shelf; faults = h.faults shelf };
   input = record { told = s.left input; faults = s.faults input };
   out = record { told = k.taken out; faults = k.faults out };
   err = record { told = e.taken err; faults = e.faults err };
   net = net_seen d net;
+  spawner = record { starts = p.starts spawner; faults = p.faults spawner };
 }
 
 -- what became of a source or a sink
@@ -75,3 +84,4 @@ pub record NoneRose (old new : Seen) : Type 0 where
   pub err_not : Rose old.err.faults new.err.faults → ⊥
   pub net_not : Rose old.net.faults new.net.faults → ⊥
   pub returned_not : Rose old.net.returned new.net.returned → ⊥
+  pub spawner_not : Rose old.spawner.faults new.spawner.faults → ⊥

@@ -6,9 +6,11 @@ use Rattle.dp_show.specs.declared.errors.ShowError.TheVariants as ends
 use Rattle.dp_show.specs.Shows.{Shows, Ends}
 use Rattle.dp_top.specs.declared.failures.Failure.{Failure}
 use Rattle.dp_top.specs.declared.failures.Failure.TheVariants.{TooLong, Source, ShelfFailed, NoFile, Fatal, Bound, Output, Script, Differs, PeerEnd, Packet, Network, Stopped, Memory}
-use Rattle.dp_words.specs.Words.{Task, run, talk, engine, ide, replay, soak, show, IsInvocation, invocation_in}
+use Rattle.dp_words.specs.Words.{Task, run, talk, engine, ide, replay, soak, proxy, show, IsInvocation, invocation_in}
+use Rattle.dp_relay.specs.Relays.{faults}
 use Rattle.dp_top.specs.Engine.{Engages, EngineFails}
 use Rattle.dp_top.specs.Ide.{Plays, IdeFails}
+use Rattle.dp_top.specs.Proxy.{Proxies, ProxyFails}
 use Rattle.dp_top.specs.Replay.{DoesReplay, ReplayFails}
 use Rattle.dp_top.specs.Failures.{status_of, line_of, Says}
 use Rattle.dp_program.specs.Runs.{Runs}
@@ -69,6 +71,10 @@ Does status (replay events ask) old new =
 Does status (soak count seed) old new =
     Soaks status count seed (changed old.out new.out)
     × IsStill old.input new.input × IsStill old.err new.err × IsOffline old new
+Does status (proxy service) old new =
+    Proxies status service (changed old.out new.out) old.net new.net
+    (faults old.spawner.faults new.spawner.faults)
+    × IsStill old.input new.input × IsStill old.err new.err
 Does status show old new =
     (status ≡ 0) × Shows (Ok tt) (changed old.input new.input) (changed old.out new.out)
     × IsStill old.err new.err × IsOffline old new
@@ -91,6 +97,10 @@ Caused failure name (replay events ask) old new =
 Caused failure name (soak count seed) old new =
     SoakFails failure name count seed (changed old.out new.out)
     × IsStill old.input new.input × IsStill old.err new.err × IsOffline old new
+Caused failure name (proxy service) old new =
+    ProxyFails failure name service (changed old.out new.out) old.net new.net
+    (faults old.spawner.faults new.spawner.faults)
+    × IsStill old.input new.input × IsStill old.err new.err
 Caused failure name show old new =
     (name ≡ []) × ShowCaused failure (changed old.input new.input) (changed old.out new.out)
     × IsStill old.err new.err × IsOffline old new
@@ -112,6 +122,7 @@ before_line new err =
       out = new.out;
       err = err;
       net = new.net;
+      spawner = new.spawner;
     }
 
 -- A status is that of a failure: it has its cause, and then its line is said.
@@ -139,4 +150,5 @@ pub record IsUnread (status : ℕ) (old new : Seen) : Type 0 where
   pub input : IsStill old.input new.input
   pub out : IsStill old.out new.out
   pub net : IsOffline old new
+  pub spawner : new.spawner ≡ old.spawner
   pub says : Says (changed old.err new.err) (codes "out of memory\n")

@@ -6,8 +6,8 @@ use Rattle.dp_ide.specs.declared.instruction.Instruction.{Instruction}
 use Rattle.dp_events.specs.declared.event.Event.{Event}
 use Rattle.dp_program.specs.Programs.{FilesMake}
 use Rattle.dp_tree.specs.declared.bundle.Bundle.{Bundle}
-use Rattle.dp_words.specs.Words.{Address, Invocation, IsEngine, IsIde, IsInvocation, IsReplay}
-use Rattle.dp_words.specs.Words.{IsRun, IsSoak, IsTalk, Task, show, invocation_in, uses_net, uses_shelf}
+use Rattle.dp_words.specs.Words.{Address, Invocation, IsEngine, IsIde, IsInvocation, IsProxy, IsReplay, Service}
+use Rattle.dp_words.specs.Words.{IsRun, IsSoak, IsTalk, Task, show, invocation_in, uses_net, uses_shelf, uses_spawner}
 use Rattle.dp_words.specs.Plain.{are_plain}
 use Rattle.dp_top.specs.Failures.{Says}
 use Rattle.dp_top.specs.Ide.{IsNoScript, IsScriptFile}
@@ -36,6 +36,7 @@ pub record Answers (status : ℕ) (words : List (List ℕ)) (old new : Seen) : T
   pub usage_out : status ≡ usage_status → IsStill old.out new.out
   pub usage_shelf : status ≡ usage_status → new.shelf ≡ old.shelf
   pub usage_net : status ≡ usage_status → IsOffline old new
+  pub usage_spawner : status ≡ usage_status → new.spawner ≡ old.spawner
   -- ---- what was done, and why it failed
 
   -- what the words ask for went well, with the status that the program or the command ended with
@@ -112,17 +113,23 @@ pub record Answers (status : ℕ) (words : List (List ℕ)) (old new : Seen) : T
   -- Where no count rose, the line of the list that is drawn is put.
   pub complete_soak : (count seed : ℕ) → IsSoak words count seed → NoneRose old new
       → (status ≡ 0) ⊎ (status ≡ memory_status)
+  -- Where no count rose, so many were served, and the line of the numbers is put.
+  pub complete_proxy : (service : Service) → IsProxy words service → NoneRose old new
+      → (status ≡ 0) ⊎ (status ≡ memory_status)
   -- ---- the objects
 
-  -- The shelf is used by neither `soak` nor `show`.
+  -- The shelf is used by neither `soak`, `proxy` nor `show`.
   pub unshelved : (task : Task) → IsInvocation words task → uses_shelf task ≡ false
       → new.shelf ≡ old.shelf
   -- Only files that the words name are fetched, each once, in their order.
   pub fetched : (task : Task) → IsInvocation words task
       → IsFetchedFor task old.shelf.fetched new.shelf.fetched
   pub files : new.shelf.files ≡ old.shelf.files
-  -- The network is used by `engine` and `ide` alone.
+  -- The network is used by `engine`, `ide` and `proxy` alone.
   pub offline : (task : Task) → IsInvocation words task → uses_net task ≡ false → IsOffline old new
+  -- Threads are started by `proxy` alone.
+  pub unspawned : (task : Task) → IsInvocation words task → uses_spawner task ≡ false
+      → new.spawner ≡ old.spawner
   -- No count of faults falls.
   pub shelf_later : old.shelf.faults ≤ new.shelf.faults
   pub input_later : old.input.faults ≤ new.input.faults
@@ -130,3 +137,4 @@ pub record Answers (status : ℕ) (words : List (List ℕ)) (old new : Seen) : T
   pub err_later : old.err.faults ≤ new.err.faults
   pub net_later : old.net.faults ≤ new.net.faults
   pub returned_later : old.net.returned ≤ new.net.returned
+  pub spawner_later : old.spawner.faults ≤ new.spawner.faults

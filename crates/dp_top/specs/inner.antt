@@ -5,5 +5,6 @@ pub mod Gated
 pub mod Carried
 pub mod Completeness
 pub mod Kept
+pub mod Proxied
 pub mod Sessions
 pub mod EventLists

@@ -2,7 +2,7 @@
 ghost use Rattle.std.specs.Prelude.{◌≡◌, ◌≤◌, ℕ, false, List, [], Ok, Some, IfOk, MatchResult};
 ghost use Rattle.dp_outside.specs.Changes.{change};
 ghost use Rattle.dp_show.specs.Shows.{Shows};
-ghost use Rattle.dp_words.specs.Words.{Invocation, Task, IsInvocation, invocation_in, uses_shelf};
+ghost use Rattle.dp_words.specs.Words.{Invocation, Task, IsInvocation, invocation_in, uses_shelf, uses_spawner};
 ghost use Rattle.dp_words.specs.Commands.{task_of};
 ghost use Rattle.dp_top.specs.inner.Carried.{IsCarriedOut};
 ghost use Rattle.dp_top.specs.inner.Completeness.{AreComplete, AreCompleteWith};
@@ -15,15 +15,17 @@ use crate::engine::engine;
 use crate::failures::{Failure, Refused};
 use crate::ide::ide;
 use crate::objects::Objects;
+use crate::proxy::proxy;
 use crate::replay::replay;
 use crate::run::run;
 use crate::soak::soak;
 use crate::talk::talk;
-use dp_outside::{Net, Shelf, Sink, Source};
+use dp_outside::{Net, Shelf, Sink, Source, Spawner};
 use dp_show::{ShowError, show};
 use dp_words::Command;
 use std::alloc::Global;
 use std::sync::Wait;
+use std::thread::Threads;
 
 /// The failure that an end of `show` is.
 fn failure_of(why: ShowError) -> Failure
@@ -60,11 +62,20 @@ fn show_all<'a, S: Source, K: Sink>(
 }
 
 /// Does what a command asks for, and answers the status of what went well.
-pub(crate) fn carry_out<'a, R: Wait + Sync, H: Shelf, S: Source, K: Sink, E: Sink, N: Net>(
+pub(crate) fn carry_out<
+    'a,
+    R: Threads + Wait + Sync,
+    H: Shelf,
+    S: Source,
+    K: Sink,
+    E: Sink,
+    N: Net,
+    P: Spawner,
+>(
     rt: &R,
     alloc: Global,
     command: Command<'a>,
-    objects: &mut Objects<H, S, K, E, N>,
+    objects: &mut Objects<H, S, K, E, N, P>,
 ) -> Result<u8, Refused<'a>>
     requires invocation { (words : List (List ℕ)) × IsInvocation words (task_of command) }
 
@@ -81,6 +92,8 @@ pub(crate) fn carry_out<'a, R: Wait + Sync, H: Shelf, S: Source, K: Sink, E: Sin
         → AreCompleteWith events ask result objects.old.seen objects.new.seen }
     ensures unshelved { uses_shelf (task_of command.entry) ≡ false
         → objects.new.seen.shelf ≡ objects.old.seen.shelf }
+    ensures unspawned { uses_spawner (task_of command.entry) ≡ false
+        → objects.new.seen.spawner ≡ objects.old.seen.spawner }
     ensures fetched { IsFetchedFor (task_of command.entry) objects.old.seen.shelf.fetched
         objects.new.seen.shelf.fetched }
     ensures goes_on { GoesOn objects.old objects.new }
@@ -92,12 +105,29 @@ pub(crate) fn carry_out<'a, R: Wait + Sync, H: Shelf, S: Source, K: Sink, E: Sin
         Command::Ide(request) => ide(rt, alloc, request, objects),
         Command::Replay(request) => replay(alloc, request, objects.shelf, objects.out),
         Command::Soak(request) => soak(alloc, request, objects.out),
+        Command::Proxy(request) => proxy(
+            rt,
+            alloc,
+            request,
+            objects.net,
+            objects.spawner,
+            objects.out,
+        ),
         Command::Show => show_all(alloc, objects.input, objects.out),
     }
 }
 
 /// The same with the objects one by one.
-pub(crate) fn carry_out_on<'a, R: Wait + Sync, H: Shelf, S: Source, K: Sink, E: Sink, N: Net>(
+pub(crate) fn carry_out_on<
+    'a,
+    R: Threads + Wait + Sync,
+    H: Shelf,
+    S: Source,
+    K: Sink,
+    E: Sink,
+    N: Net,
+    P: Spawner,
+>(
     rt: &R,
     alloc: Global,
     command: Command<'a>,
@@ -106,13 +136,14 @@ pub(crate) fn carry_out_on<'a, R: Wait + Sync, H: Shelf, S: Source, K: Sink, E: 
     out: &mut K,
     err: &mut E,
     net: &mut N,
+    spawner: &mut P,
 ) -> Result<u8, Refused<'a>>
     requires invocation { (words : List (List ℕ)) × IsInvocation words (task_of command) }
 
-    ensures carried { let before = seen H.Shelf S.Source K.Sink E.Sink N.Dialer
-        shelf.old input.old out.old err.old net.old in
-        let after = seen H.Shelf S.Source K.Sink E.Sink N.Dialer
-        shelf.new input.new out.new err.new net.new in
+    ensures carried { let before = seen H.Shelf S.Source K.Sink E.Sink N.Dialer P.Spawner
+        shelf.old input.old out.old err.old net.old spawner.old in
+        let after = seen H.Shelf S.Source K.Sink E.Sink N.Dialer P.Spawner
+        shelf.new input.new out.new err.new net.new spawner.new in
         IsCarriedOut result (task_of command.entry) before after }
 {
     let mut objects = Objects {
@@ -121,6 +152,7 @@ pub(crate) fn carry_out_on<'a, R: Wait + Sync, H: Shelf, S: Source, K: Sink, E: 
         out,
         err,
         net,
+        spawner,
     };
     let done = carry_out(rt, alloc, command, &mut objects);
     let Objects {
@@ -129,6 +161,7 @@ pub(crate) fn carry_out_on<'a, R: Wait + Sync, H: Shelf, S: Source, K: Sink, E: 
         out,
         err,
         net,
+        spawner,
     } = objects;
     // What became of each is known by looking at it.
     let _ = &*shelf;
@@ -136,5 +169,6 @@ pub(crate) fn carry_out_on<'a, R: Wait + Sync, H: Shelf, S: Source, K: Sink, E: 
     let _ = &*out;
     let _ = &*err;
     let _ = &*net;
+    let _ = &*spawner;
     done
 }

@@ -16,7 +16,7 @@ use crate::failures::{Failure, Refused};
 use crate::objects::Objects;
 use crate::run::refusal_of_program;
 use crate::sessions::serve_program;
-use dp_outside::{Host, Net, Shelf, Sink, Source};
+use dp_outside::{Host, Net, Shelf, Sink, Source, Spawner};
 use dp_program::fetch_program;
 use dp_tree::Bundle;
 use dp_words::Engine;
@@ -106,10 +106,10 @@ fn serve_over<'a, N: Net, K: Sink>(
 }
 
 /// Serves one session over a link to the address; the program's own output goes to `out`.
-pub(crate) fn engine<'a, H: Shelf, S: Source, K: Sink, E: Sink, N: Net>(
+pub(crate) fn engine<'a, H: Shelf, S: Source, K: Sink, E: Sink, N: Net, P: Spawner>(
     alloc: Global,
     request: Engine<'a>,
-    objects: &mut Objects<H, S, K, E, N>,
+    objects: &mut Objects<H, S, K, E, N, P>,
 ) -> Result<u8, Refused<'a>>
     requires host { IsHostWord request.address.host.now }
     requires session { IsSession request.talk.key.now (invocation_seen request.talk.program) }
@@ -124,6 +124,7 @@ pub(crate) fn engine<'a, H: Shelf, S: Source, K: Sink, E: Sink, N: Net>(
     ensures held { AreComplete (invocation_seen request.entry.talk.program) result objects.old.seen objects.new.seen }
     ensures fetched { IsFetched (Some (invocation_seen request.entry.talk.program)) objects.old.seen.shelf.fetched
         objects.new.seen.shelf.fetched }
+    ensures unspawned { objects.new.seen.spawner ≡ objects.old.seen.spawner }
     ensures goes_on { GoesOn objects.old objects.new }
 {
     match fetch_program(alloc, request.talk.program.files, objects.shelf) {

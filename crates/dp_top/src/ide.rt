@@ -14,7 +14,7 @@ use crate::failures::{Failure, Refused};
 use crate::lines::{LINES_LIMIT, unfetched};
 use crate::objects::Objects;
 use dp_ide::{IdeError, Script, play};
-use dp_outside::{Gate, Net, Shelf, Sink, Source};
+use dp_outside::{Gate, Net, Shelf, Sink, Source, Spawner};
 use dp_words::Ide;
 use std::alloc::Global;
 use std::sync::Wait;
@@ -86,9 +86,11 @@ fn meet<R: Wait + Sync, D: Gate, O: Sink>(
 ) -> Option<Result<(), IdeError>>
     requires faults { D.faults door.old ≡ 0 }
     requires returned { D.returned door.old ≡ 0 }
+    requires accepts { BeginsEmpty (D.accepts door.old) }
     requires accepted { BeginsEmpty (D.accepted door.old) }
     requires retired { BeginsEmpty (D.retired door.old) }
     ensures met { MetSo result script.now (record {
+      accepts = D.accepts door.new;
       accepted = D.accepted door.new;
       retired = D.retired door.new;
       faults = D.faults door.new;
@@ -146,11 +148,11 @@ fn judge<'a>(played: Option<Result<(), IdeError>>) -> Result<u8, Refused<'a>>
 }
 
 /// Plays a script over a link that is made to a port; what it prints goes to `out`.
-pub(crate) fn ide<'a, R: Wait + Sync, H: Shelf, S: Source, K: Sink, E: Sink, N: Net>(
+pub(crate) fn ide<'a, R: Wait + Sync, H: Shelf, S: Source, K: Sink, E: Sink, N: Net, P: Spawner>(
     rt: &R,
     alloc: Global,
     request: Ide<'a>,
-    objects: &mut Objects<H, S, K, E, N>,
+    objects: &mut Objects<H, S, K, E, N, P>,
 ) -> Result<u8, Refused<'a>>
     ensures ends { MatchResult result
         (λ status. Plays status request.entry.port request.entry.script.now objects.old.seen objects.new.seen)
@@ -159,6 +161,7 @@ pub(crate) fn ide<'a, R: Wait + Sync, H: Shelf, S: Source, K: Sink, E: Sink, N: 
     ensures status { IfOk result (λ status. status ≤ exit_limit) }
     ensures fetched { objects.new.seen.shelf.fetched ≡ grown objects.old.seen.shelf.fetched
         (request.entry.script.now ∷ []) }
+    ensures unspawned { objects.new.seen.spawner ≡ objects.old.seen.spawner }
     ensures goes_on { GoesOn objects.old objects.new }
 {
     match fetch_script(alloc, request.script, objects.shelf) {

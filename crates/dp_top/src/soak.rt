@@ -1,5 +1,5 @@
 //! The command `soak`: a list of events that is drawn, replayed over one program, and counted.
-ghost use Rattle.std.specs.Prelude.{◌≡◌, ◌∷◌, ◌++◌, ◌<◌, ◌≤◌, [], Ok, decimal, map, IfOk, MatchResult};
+ghost use Rattle.std.specs.Prelude.{◌≡◌, ◌∷◌, ◌<◌, ◌≤◌, [], Ok, map, IfOk, MatchResult};
 ghost use Rattle.dp_outside.specs.Changes.{change};
 ghost use Rattle.dp_bundle.specs.Bundles.{Makes};
 ghost use Rattle.dp_events.specs.Soak.{soak_limit};
@@ -10,6 +10,7 @@ ghost use Rattle.dp_world.specs.declared.numbers.Tally.{Tally as Counted};
 
 use crate::engines;
 use crate::failures::{Failure, Refused};
+use crate::numbers::with_number;
 use dp_engine::Steps;
 use dp_events::soak_events;
 use dp_outside::Sink;
@@ -61,21 +62,6 @@ fn count<L: Ledger>(alloc: Global, request: Soak, blank: Blank) -> Result<Tally,
     let program = soak_program(alloc)?;
     let mut steps = Steps::<L>::new(blank);
     engines::tally(alloc, &events, &program, DEFAULT_BOUND, &mut steps)
-}
-
-/// Text that goes on with a word and a number.
-fn with_number(
-    alloc: Global,
-    mut text: Vec<u8>,
-    word: &[u8],
-    number: u64,
-) -> Result<Vec<u8>, Memory>
-    ensures { IfOk result (λ more. more.items ≡ text.items ++ word.now ++ decimal number) }
-{
-    let digits = number.to_string(alloc)?;
-    text.extend_from_slice(word)?;
-    text.extend_from_slice(digits.as_bytes())?;
-    Ok(text)
 }
 
 /// The line of a tally.

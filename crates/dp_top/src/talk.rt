@@ -12,7 +12,7 @@ use crate::failures::{Failure, Refused};
 use crate::objects::Objects;
 use crate::run::refusal_of_program;
 use crate::sessions::serve_program;
-use dp_outside::{Net, Shelf, Sink, Source};
+use dp_outside::{Net, Shelf, Sink, Source, Spawner};
 use dp_program::fetch_program;
 use dp_words::Talk;
 use std::alloc::Global;
@@ -20,10 +20,10 @@ use std::marker::Brand;
 use std::sync::ledger::Blank;
 
 /// Serves one session with `input` and `out` as the link; the program's own output goes to `err`.
-pub(crate) fn talk<'a, H: Shelf, S: Source, K: Sink, E: Sink, N: Net>(
+pub(crate) fn talk<'a, H: Shelf, S: Source, K: Sink, E: Sink, N: Net, P: Spawner>(
     alloc: Global,
     request: Talk<'a>,
-    objects: &mut Objects<H, S, K, E, N>,
+    objects: &mut Objects<H, S, K, E, N, P>,
 ) -> Result<u8, Refused<'a>>
     requires { IsSession request.key.now (invocation_seen request.program) }
     ensures ends { MatchResult result
@@ -37,6 +37,7 @@ pub(crate) fn talk<'a, H: Shelf, S: Source, K: Sink, E: Sink, N: Net>(
     ensures fetched { IsFetched (Some (invocation_seen request.entry.program)) objects.old.seen.shelf.fetched
         objects.new.seen.shelf.fetched }
     ensures offline { objects.new.seen.net ≡ objects.old.seen.net }
+    ensures unspawned { objects.new.seen.spawner ≡ objects.old.seen.spawner }
     ensures goes_on { GoesOn objects.old objects.new }
 {
     match fetch_program(alloc, request.program.files, objects.shelf) {

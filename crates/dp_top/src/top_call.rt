@@ -1,5 +1,5 @@
 //! The top call.
-ghost use Rattle.std.specs.Prelude.{◌≡◌, map, string_bytes};
+ghost use Rattle.std.specs.Prelude.{map, string_bytes};
 ghost use Rattle.dp_top.specs.Seen.{seen};
 ghost use Rattle.dp_top.specs.Top.{Answers};
 
@@ -10,6 +10,7 @@ use dp_outside::{Net, Shelf, Sink, Source, Spawner};
 use dp_words::read_words;
 use std::alloc::Global;
 use std::sync::Wait;
+use std::thread::Threads;
 
 /// Does what the words of a command line ask for, and answers the status with which the program ends.
 ///
@@ -20,8 +21,10 @@ use std::sync::Wait;
 /// SCRIPT` plays the script over the link that an engine makes to the port, and what it prints goes to `out`; `replay
 /// [--bound N] EVENTS FILE..` writes the transcript of the list of events on `out`, with engines in memory that run the
 /// program; `soak N SEED` replays a list of N sessions that is drawn from SEED over one program, and prints its numbers
-/// on `out`; `show` reads framed packets from `input` and prints the element of each on `out`, in canonical text with a
-/// line feed.
+/// on `out`; `proxy IDEPORT ENGINEPORT REGISTRATIONS SESSIONS` opens a gate at each port, answers so many IDEs that
+/// register at the one, joins so many engines that come to the other to the IDEs that hold their keys, in threads, and
+/// prints the numbers on `out`; `show` reads framed packets from `input` and prints the element of each on `out`, in
+/// canonical text with a line feed.
 ///
 /// | status | comes | line on `err` |
 /// |---|---|---|
@@ -34,15 +37,15 @@ use std::sync::Wait;
 /// | 205 | line N of the script wants W, and F is found, or nothing | `differs line N wanted W found F` |
 /// | 206 | the input of `show` ended inside a frame, or the link of `ide` before a packet that was awaited | `peer ended` |
 /// | 207 | bytes stand in no command's or packet's place, a text is no packet, or too many came | `bad packet offset N` |
-/// | 208 | the input or a dial failed, no link came, or it failed | `network failed` |
+/// | 208 | the input or a dial failed, no link came, or it failed; of `proxy` a gate or no thread was had | `network failed` |
 /// | 209 | out of memory | `out of memory` |
 /// | 210 | a command stopped the program before its end | `stopped by the IDE` |
 /// | 255 | the program could not go on, or would have had more moments than N | `fatal KIND in NAME on line N`, `bound reached after N steps` |
 ///
-/// It waits in the calls of `input`, of `net`, of a gate and of a link alone. `soak` and `show` do not use the shelf,
-/// nor `run`, `engine`, `ide`, `replay` and `soak` the input; `net` is used by `engine` and `ide` alone, and `spawner`
-/// is not used.
-pub fn top<R: Wait + Sync, H: Shelf, S: Source, K: Sink, E: Sink, N: Net, P: Spawner>(
+/// It waits in the calls of `input`, of `net`, of a gate and of a link, and for threads of `proxy`. `soak`, `proxy` and
+/// `show` do not use the shelf, nor `run`, `engine`, `ide`, `replay`, `soak` and `proxy` the input; `net` is used by
+/// `engine`, `ide` and `proxy` alone, and `spawner` by `proxy`.
+pub fn top<R: Threads + Wait + Sync, H: Shelf, S: Source, K: Sink, E: Sink, N: Net, P: Spawner>(
     rt: &R,
     alloc: Global,
     words: &[String],
@@ -53,21 +56,20 @@ pub fn top<R: Wait + Sync, H: Shelf, S: Source, K: Sink, E: Sink, N: Net, P: Spa
     net: &mut N,
     spawner: &mut P,
 ) -> u8
-    ensures answers { let before = seen H.Shelf S.Source K.Sink E.Sink N.Dialer
-        shelf.old input.old out.old err.old net.old in
-        let after = seen H.Shelf S.Source K.Sink E.Sink N.Dialer
-        shelf.new input.new out.new err.new net.new in
+    ensures answers { let before = seen H.Shelf S.Source K.Sink E.Sink N.Dialer P.Spawner
+        shelf.old input.old out.old err.old net.old spawner.old in
+        let after = seen H.Shelf S.Source K.Sink E.Sink N.Dialer P.Spawner
+        shelf.new input.new out.new err.new net.new spawner.new in
         Answers result (map string_bytes words.now) before after }
-    // No command uses the spawner.
-    ensures spawner { P.faults spawner.new ≡ P.faults spawner.old }
-    ensures spawner_starts { P.starts spawner.new ≡ P.starts spawner.old }
 {
     match read_words(alloc, words) {
         Ok(None) => {
             say(err, b"usage\n");
             statuses::USAGE
         }
-        Ok(Some(command)) => match carry_out_on(rt, alloc, command, shelf, input, out, err, net) {
+        Ok(Some(command)) => match carry_out_on(
+            rt, alloc, command, shelf, input, out, err, net, spawner,
+        ) {
             Ok(status) => status,
             Err(refused) => report(alloc, &refused.failure, refused.name, err),
         },

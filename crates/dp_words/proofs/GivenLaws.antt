@@ -1,5 +1,5 @@
 -- What the matches of a command hold says what is asked for.
-use Rattle.std.proofs.Common.{◌≡◌, ℕ, ◌≤◌, ◌+◌, ◌-◌, List, [], ◌∷◌, ◌++◌, length, map, drop, Option, Some, None, Box, refl, sym, ap, ap₂, ◌∙◌, subst, arith, codes, String, string_bytes, Global}
+use Rattle.std.proofs.Common.{◌≡◌, ℕ, ◌≤◌, ◌-◌, List, [], ◌∷◌, ◌++◌, length, map, drop, Option, Some, None, Box, refl, sym, ap, ap₂, ◌∙◌, subst, arith, codes, String, string_bytes, Global}
 use Rattle.std.specs.Prelude.{get_or, option_and_then}
 use Rattle.std.specs.Option.{option_map, option_map_or}
 use Rattle.std.proofs.lemmas.List.{drop-map, length-append, length-map}
@@ -11,8 +11,8 @@ use Rattle.clap.specs.declared.parser.matches.ArgMatches.TheViews.{out-ArgMatche
 use Rattle.clap.specs.declared.parser.matches.SubCommand.{SubCommand}
 use Rattle.clap.specs.Walk.{Row, Text, first_of}
 use Rattle.dp_value.specs.Decimals.{decimal_in}
-use Rattle.dp_words.specs.Words.{Address, AreFileWords, Invocation, IsFileWord, IsHostWord, IsInvocation, IsSession, Task, run, talk, engine, ide, replay, soak, show, invocation_of, port_of, seed_limit, session_count_of}
-use Rattle.dp_words.specs.inner.Given.{Given, engine_given, ide_given, replay_given, run_given, show_given, soak_given, talk_given, requested, bound_given, bound_in, bounded, files_in, first_in, name_in, rows_in, words_in, are_plain_in}
+use Rattle.dp_words.specs.Words.{Address, AreFileWords, Invocation, IsFileWord, IsHostWord, IsInvocation, IsSession, Task, run, talk, engine, ide, replay, soak, proxy, show, Service, invocation_of, port_of, seed_limit, served_count_of, session_count_of}
+use Rattle.dp_words.specs.inner.Given.{Given, engine_given, ide_given, proxy_given, replay_given, run_given, show_given, soak_given, talk_given, requested, bound_given, bound_in, bounded, files_in, first_in, name_in, rows_in, words_in, are_plain_in}
 use Rattle.dp_words.specs.inner.Rows.{AreRows, IsGiven, count_in, program_in}
 use Rattle.dp_words.proofs.Readings.{invoked, named, name_of}
 
@@ -37,6 +37,7 @@ count_said (replay_given (Some n) events []) = refl
 count_said (replay_given (Some n) events (f ∷ fs)) = refl
 count_said (ide_given port script) = refl
 count_said (soak_given count seed) = refl
+count_said (proxy_given ides engines registrations sessions) = refl
 count_said show_given = refl
 
 bound_said : (g : Given) → first_of (codes "bound") (rows_in g) ≡ bound_in g
@@ -58,6 +59,7 @@ bound_said (replay_given (Some n) events []) = refl
 bound_said (replay_given (Some n) events (f ∷ fs)) = refl
 bound_said (ide_given port script) = refl
 bound_said (soak_given count seed) = refl
+bound_said (proxy_given ides engines registrations sessions) = refl
 bound_said show_given = refl
 
 key_of_talk : (bound : Option Text) (key : Text) (files : List Text)
@@ -118,6 +120,7 @@ front_is (replay_given None events files) = refl
 front_is (replay_given (Some n) events files) = refl
 front_is (ide_given port script) = refl
 front_is (soak_given count seed) = refl
+front_is (proxy_given ides engines registrations sessions) = refl
 front_is show_given = refl
 
 module _ (words : List (String Global)) (name : Text) (rows : List Row) (i : IsGiven (map string_bytes words) name
@@ -249,6 +252,8 @@ module _ (words : List (String Global)) (name : Text) (rows : List Row) (i : IsG
       by (ide_given x0 x1) at = absurd (omega (arith, differs (codes "run") (ide_given x0 x1) at is))
       by (replay_given x0 x1 x2) at = absurd (omega (arith, differs (codes "run") (replay_given x0 x1 x2) at is))
       by (soak_given x0 x1) at = absurd (omega (arith, differs (codes "run") (soak_given x0 x1) at is))
+      by (proxy_given x0 x1 x2 x3) at =
+          absurd (omega (arith, differs (codes "run") (proxy_given x0 x1 x2 x3) at is))
       by show_given at = absurd (omega (arith, differs (codes "run") show_given at is))
 
     pub run_none : name ≡ codes "run"
@@ -269,6 +274,7 @@ module _ (words : List (String Global)) (name : Text) (rows : List Row) (i : IsG
         by_task (ide n s) asks = omega (arith, clashes (codes "run") (ide n s) is asks)
         by_task (replay e asking) asks = omega (arith, clashes (codes "run") (replay e asking) is asks)
         by_task (soak n d) asks = omega (arith, clashes (codes "run") (soak n d) is asks)
+        by_task (proxy service) asks = omega (arith, clashes (codes "run") (proxy service) is asks)
         by_task show asks = omega (arith, clashes (codes "run") show is asks)
       by (talk_given x0 x1 x2) at = absurd (omega (arith, differs (codes "run") (talk_given x0 x1 x2) at is))
       by (engine_given x0 x1 x2 x3 x4) at =
@@ -276,6 +282,8 @@ module _ (words : List (String Global)) (name : Text) (rows : List Row) (i : IsG
       by (ide_given x0 x1) at = absurd (omega (arith, differs (codes "run") (ide_given x0 x1) at is))
       by (replay_given x0 x1 x2) at = absurd (omega (arith, differs (codes "run") (replay_given x0 x1 x2) at is))
       by (soak_given x0 x1) at = absurd (omega (arith, differs (codes "run") (soak_given x0 x1) at is))
+      by (proxy_given x0 x1 x2 x3) at =
+          absurd (omega (arith, differs (codes "run") (proxy_given x0 x1 x2 x3) at is))
       by show_given at = absurd (omega (arith, differs (codes "run") show_given at is))
 
     -- ---- `talk`
@@ -303,6 +311,8 @@ module _ (words : List (String Global)) (name : Text) (rows : List Row) (i : IsG
       by (ide_given x0 x1) at = absurd (omega (arith, differs (codes "talk") (ide_given x0 x1) at is))
       by (replay_given x0 x1 x2) at = absurd (omega (arith, differs (codes "talk") (replay_given x0 x1 x2) at is))
       by (soak_given x0 x1) at = absurd (omega (arith, differs (codes "talk") (soak_given x0 x1) at is))
+      by (proxy_given x0 x1 x2 x3) at =
+          absurd (omega (arith, differs (codes "talk") (proxy_given x0 x1 x2 x3) at is))
       by show_given at = absurd (omega (arith, differs (codes "talk") show_given at is))
 
     pub talk_none : name ≡ codes "talk"
@@ -326,6 +336,7 @@ module _ (words : List (String Global)) (name : Text) (rows : List Row) (i : IsG
         by_task (ide n s) asks = omega (arith, clashes (codes "talk") (ide n s) is asks)
         by_task (replay e asking) asks = omega (arith, clashes (codes "talk") (replay e asking) is asks)
         by_task (soak n d) asks = omega (arith, clashes (codes "talk") (soak n d) is asks)
+        by_task (proxy service) asks = omega (arith, clashes (codes "talk") (proxy service) is asks)
         by_task show asks = omega (arith, clashes (codes "talk") show is asks)
       by (run_given x0 x1) at = absurd (omega (arith, differs (codes "talk") (run_given x0 x1) at is))
       by (engine_given x0 x1 x2 x3 x4) at =
@@ -333,6 +344,8 @@ module _ (words : List (String Global)) (name : Text) (rows : List Row) (i : IsG
       by (ide_given x0 x1) at = absurd (omega (arith, differs (codes "talk") (ide_given x0 x1) at is))
       by (replay_given x0 x1 x2) at = absurd (omega (arith, differs (codes "talk") (replay_given x0 x1 x2) at is))
       by (soak_given x0 x1) at = absurd (omega (arith, differs (codes "talk") (soak_given x0 x1) at is))
+      by (proxy_given x0 x1 x2 x3) at =
+          absurd (omega (arith, differs (codes "talk") (proxy_given x0 x1 x2 x3) at is))
       by show_given at = absurd (omega (arith, differs (codes "talk") show_given at is))
 
     -- ---- `engine`
@@ -372,6 +385,8 @@ module _ (words : List (String Global)) (name : Text) (rows : List Row) (i : IsG
       by (ide_given x0 x1) at = absurd (omega (arith, differs (codes "engine") (ide_given x0 x1) at is))
       by (replay_given x0 x1 x2) at = absurd (omega (arith, differs (codes "engine") (replay_given x0 x1 x2) at is))
       by (soak_given x0 x1) at = absurd (omega (arith, differs (codes "engine") (soak_given x0 x1) at is))
+      by (proxy_given x0 x1 x2 x3) at =
+          absurd (omega (arith, differs (codes "engine") (proxy_given x0 x1 x2 x3) at is))
       by show_given at = absurd (omega (arith, differs (codes "engine") show_given at is))
 
     pub engine_none : name ≡ codes "engine"
@@ -405,12 +420,15 @@ module _ (words : List (String Global)) (name : Text) (rows : List Row) (i : IsG
         by_task (ide n s) asks = omega (arith, clashes (codes "engine") (ide n s) is asks)
         by_task (replay e asking) asks = omega (arith, clashes (codes "engine") (replay e asking) is asks)
         by_task (soak n d) asks = omega (arith, clashes (codes "engine") (soak n d) is asks)
+        by_task (proxy service) asks = omega (arith, clashes (codes "engine") (proxy service) is asks)
         by_task show asks = omega (arith, clashes (codes "engine") show is asks)
       by (run_given x0 x1) at = absurd (omega (arith, differs (codes "engine") (run_given x0 x1) at is))
       by (talk_given x0 x1 x2) at = absurd (omega (arith, differs (codes "engine") (talk_given x0 x1 x2) at is))
       by (ide_given x0 x1) at = absurd (omega (arith, differs (codes "engine") (ide_given x0 x1) at is))
       by (replay_given x0 x1 x2) at = absurd (omega (arith, differs (codes "engine") (replay_given x0 x1 x2) at is))
       by (soak_given x0 x1) at = absurd (omega (arith, differs (codes "engine") (soak_given x0 x1) at is))
+      by (proxy_given x0 x1 x2 x3) at =
+          absurd (omega (arith, differs (codes "engine") (proxy_given x0 x1 x2 x3) at is))
       by show_given at = absurd (omega (arith, differs (codes "engine") show_given at is))
 
     -- ---- `ide`
@@ -440,6 +458,8 @@ module _ (words : List (String Global)) (name : Text) (rows : List Row) (i : IsG
           absurd (omega (arith, differs (codes "ide") (engine_given x0 x1 x2 x3 x4) at is))
       by (replay_given x0 x1 x2) at = absurd (omega (arith, differs (codes "ide") (replay_given x0 x1 x2) at is))
       by (soak_given x0 x1) at = absurd (omega (arith, differs (codes "ide") (soak_given x0 x1) at is))
+      by (proxy_given x0 x1 x2 x3) at =
+          absurd (omega (arith, differs (codes "ide") (proxy_given x0 x1 x2 x3) at is))
       by show_given at = absurd (omega (arith, differs (codes "ide") show_given at is))
 
     pub ide_none : name ≡ codes "ide"
@@ -467,6 +487,7 @@ module _ (words : List (String Global)) (name : Text) (rows : List Row) (i : IsG
         by_task (engine a k asking) asks = omega (arith, clashes (codes "ide") (engine a k asking) is asks)
         by_task (replay e asking) asks = omega (arith, clashes (codes "ide") (replay e asking) is asks)
         by_task (soak n d) asks = omega (arith, clashes (codes "ide") (soak n d) is asks)
+        by_task (proxy service) asks = omega (arith, clashes (codes "ide") (proxy service) is asks)
         by_task show asks = omega (arith, clashes (codes "ide") show is asks)
       by (run_given x0 x1) at = absurd (omega (arith, differs (codes "ide") (run_given x0 x1) at is))
       by (talk_given x0 x1 x2) at = absurd (omega (arith, differs (codes "ide") (talk_given x0 x1 x2) at is))
@@ -474,6 +495,8 @@ module _ (words : List (String Global)) (name : Text) (rows : List Row) (i : IsG
           absurd (omega (arith, differs (codes "ide") (engine_given x0 x1 x2 x3 x4) at is))
       by (replay_given x0 x1 x2) at = absurd (omega (arith, differs (codes "ide") (replay_given x0 x1 x2) at is))
       by (soak_given x0 x1) at = absurd (omega (arith, differs (codes "ide") (soak_given x0 x1) at is))
+      by (proxy_given x0 x1 x2 x3) at =
+          absurd (omega (arith, differs (codes "ide") (proxy_given x0 x1 x2 x3) at is))
       by show_given at = absurd (omega (arith, differs (codes "ide") show_given at is))
 
     -- ---- `replay`
@@ -504,6 +527,8 @@ module _ (words : List (String Global)) (name : Text) (rows : List Row) (i : IsG
           absurd (omega (arith, differs (codes "replay") (engine_given x0 x1 x2 x3 x4) at is))
       by (ide_given x0 x1) at = absurd (omega (arith, differs (codes "replay") (ide_given x0 x1) at is))
       by (soak_given x0 x1) at = absurd (omega (arith, differs (codes "replay") (soak_given x0 x1) at is))
+      by (proxy_given x0 x1 x2 x3) at =
+          absurd (omega (arith, differs (codes "replay") (proxy_given x0 x1 x2 x3) at is))
       by show_given at = absurd (omega (arith, differs (codes "replay") show_given at is))
 
     pub replay_none : name ≡ codes "replay"
@@ -528,6 +553,7 @@ module _ (words : List (String Global)) (name : Text) (rows : List Row) (i : IsG
         by_task (engine a k asking) asks = omega (arith, clashes (codes "replay") (engine a k asking) is asks)
         by_task (ide n s) asks = omega (arith, clashes (codes "replay") (ide n s) is asks)
         by_task (soak n d) asks = omega (arith, clashes (codes "replay") (soak n d) is asks)
+        by_task (proxy service) asks = omega (arith, clashes (codes "replay") (proxy service) is asks)
         by_task show asks = omega (arith, clashes (codes "replay") show is asks)
       by (run_given x0 x1) at = absurd (omega (arith, differs (codes "replay") (run_given x0 x1) at is))
       by (talk_given x0 x1 x2) at = absurd (omega (arith, differs (codes "replay") (talk_given x0 x1 x2) at is))
@@ -535,6 +561,8 @@ module _ (words : List (String Global)) (name : Text) (rows : List Row) (i : IsG
           absurd (omega (arith, differs (codes "replay") (engine_given x0 x1 x2 x3 x4) at is))
       by (ide_given x0 x1) at = absurd (omega (arith, differs (codes "replay") (ide_given x0 x1) at is))
       by (soak_given x0 x1) at = absurd (omega (arith, differs (codes "replay") (soak_given x0 x1) at is))
+      by (proxy_given x0 x1 x2 x3) at =
+          absurd (omega (arith, differs (codes "replay") (proxy_given x0 x1 x2 x3) at is))
       by show_given at = absurd (omega (arith, differs (codes "replay") show_given at is))
 
     -- ---- `soak`
@@ -562,6 +590,8 @@ module _ (words : List (String Global)) (name : Text) (rows : List Row) (i : IsG
           absurd (omega (arith, differs (codes "soak") (engine_given x0 x1 x2 x3 x4) at is))
       by (ide_given x0 x1) at = absurd (omega (arith, differs (codes "soak") (ide_given x0 x1) at is))
       by (replay_given x0 x1 x2) at = absurd (omega (arith, differs (codes "soak") (replay_given x0 x1 x2) at is))
+      by (proxy_given x0 x1 x2 x3) at =
+          absurd (omega (arith, differs (codes "soak") (proxy_given x0 x1 x2 x3) at is))
       by show_given at = absurd (omega (arith, differs (codes "soak") show_given at is))
 
     pub soak_none : name ≡ codes "soak"
@@ -589,6 +619,7 @@ module _ (words : List (String Global)) (name : Text) (rows : List Row) (i : IsG
         by_task (engine a k asking) asks = omega (arith, clashes (codes "soak") (engine a k asking) is asks)
         by_task (ide n s) asks = omega (arith, clashes (codes "soak") (ide n s) is asks)
         by_task (replay e asking) asks = omega (arith, clashes (codes "soak") (replay e asking) is asks)
+        by_task (proxy service) asks = omega (arith, clashes (codes "soak") (proxy service) is asks)
         by_task show asks = omega (arith, clashes (codes "soak") show is asks)
       by (run_given x0 x1) at = absurd (omega (arith, differs (codes "soak") (run_given x0 x1) at is))
       by (talk_given x0 x1 x2) at = absurd (omega (arith, differs (codes "soak") (talk_given x0 x1 x2) at is))
@@ -596,14 +627,95 @@ module _ (words : List (String Global)) (name : Text) (rows : List Row) (i : IsG
           absurd (omega (arith, differs (codes "soak") (engine_given x0 x1 x2 x3 x4) at is))
       by (ide_given x0 x1) at = absurd (omega (arith, differs (codes "soak") (ide_given x0 x1) at is))
       by (replay_given x0 x1 x2) at = absurd (omega (arith, differs (codes "soak") (replay_given x0 x1 x2) at is))
+      by (proxy_given x0 x1 x2 x3) at =
+          absurd (omega (arith, differs (codes "soak") (proxy_given x0 x1 x2 x3) at is))
       by show_given at = absurd (omega (arith, differs (codes "soak") show_given at is))
+
+    -- ---- `proxy`
+
+    pub proxy_found : name ≡ codes "proxy" → (service : Service)
+        → option_and_then port_of (first_of (codes "IDEPORT") rows) ≡ Some service.ides
+        → option_and_then port_of (first_of (codes "ENGINEPORT") rows) ≡ Some service.engines
+        → option_and_then served_count_of (first_of (codes "REGISTRATIONS") rows) ≡ Some service.registrations
+        → option_and_then served_count_of (first_of (codes "SESSIONS") rows) ≡ Some service.sessions
+        → IsInvocation all (proxy service)
+    proxy_found is service ides_is engines_is registrations_is sessions_is = by i.given refl where
+      by : (g : Given) → i.given ≡ g → IsInvocation all (proxy service)
+      by (proxy_given a b c d) at =
+          let g = proxy_given a b c d in
+          record {
+            ides = a;
+            engines = b;
+            registrations = c;
+            sessions = d;
+            words_are = words_at g at;
+            is_ides = sym (ap (λ (o : Option Text). option_and_then port_of o)
+                (ap (first_of (codes "IDEPORT")) (rows_at g at))) ∙ ides_is;
+            is_engines = sym (ap (λ (o : Option Text). option_and_then port_of o)
+                (ap (first_of (codes "ENGINEPORT")) (rows_at g at))) ∙ engines_is;
+            is_registrations = sym (ap (λ (o : Option Text). option_and_then served_count_of o)
+                (ap (first_of (codes "REGISTRATIONS")) (rows_at g at))) ∙ registrations_is;
+            is_sessions = sym (ap (λ (o : Option Text). option_and_then served_count_of o)
+                (ap (first_of (codes "SESSIONS")) (rows_at g at))) ∙ sessions_is;
+          }
+      by (run_given x0 x1) at = absurd (omega (arith, differs (codes "proxy") (run_given x0 x1) at is))
+      by (talk_given x0 x1 x2) at = absurd (omega (arith, differs (codes "proxy") (talk_given x0 x1 x2) at is))
+      by (engine_given x0 x1 x2 x3 x4) at =
+          absurd (omega (arith, differs (codes "proxy") (engine_given x0 x1 x2 x3 x4) at is))
+      by (ide_given x0 x1) at = absurd (omega (arith, differs (codes "proxy") (ide_given x0 x1) at is))
+      by (replay_given x0 x1 x2) at = absurd (omega (arith, differs (codes "proxy") (replay_given x0 x1 x2) at is))
+      by (soak_given x0 x1) at = absurd (omega (arith, differs (codes "proxy") (soak_given x0 x1) at is))
+      by show_given at = absurd (omega (arith, differs (codes "proxy") show_given at is))
+
+    pub proxy_none : name ≡ codes "proxy"
+        → ((ides engines registrations sessions : Text) (a b c d : ℕ) → first_of (codes "IDEPORT") rows ≡ Some ides
+        → first_of (codes "ENGINEPORT") rows ≡ Some engines
+        → first_of (codes "REGISTRATIONS") rows ≡ Some registrations
+        → first_of (codes "SESSIONS") rows ≡ Some sessions
+        → port_of ides ≡ Some a → port_of engines ≡ Some b
+        → served_count_of registrations ≡ Some c → served_count_of sessions ≡ Some d → ⊥)
+        → (task : Task) → IsInvocation all task → ⊥
+    proxy_none is none = by i.given refl where
+      by : (g : Given) → i.given ≡ g → (task : Task) → IsInvocation all task → ⊥
+      by (proxy_given a b c d) at = by_task where
+        g : Given
+        g = proxy_given a b c d
+
+        by_task : (task : Task) → IsInvocation all task → ⊥
+        by_task (proxy service) asks =
+            let same = behind_is all (a ∷ b ∷ c ∷ d ∷ [])
+            (asks.ides ∷ asks.engines ∷ asks.registrations ∷ asks.sessions ∷ []) (codes "proxy") (words_at g at)
+            asks.words_are
+            in
+            none a b c d service.ides service.engines service.registrations service.sessions
+            (ap (first_of (codes "IDEPORT")) (rows_at g at)) (ap (first_of (codes "ENGINEPORT")) (rows_at g at))
+            (ap (first_of (codes "REGISTRATIONS")) (rows_at g at)) (ap (first_of (codes "SESSIONS")) (rows_at g at))
+            (ap (λ (l : List Text). port_of (get_or l 0 [])) same ∙ asks.is_ides)
+            (ap (λ (l : List Text). port_of (get_or l 1 [])) same ∙ asks.is_engines)
+            (ap (λ (l : List Text). served_count_of (get_or l 2 [])) same ∙ asks.is_registrations)
+            (ap (λ (l : List Text). served_count_of (get_or l 3 [])) same ∙ asks.is_sessions)
+        by_task (run asking) asks = omega (arith, clashes (codes "proxy") (run asking) is asks)
+        by_task (talk k asking) asks = omega (arith, clashes (codes "proxy") (talk k asking) is asks)
+        by_task (engine a k asking) asks = omega (arith, clashes (codes "proxy") (engine a k asking) is asks)
+        by_task (ide n s) asks = omega (arith, clashes (codes "proxy") (ide n s) is asks)
+        by_task (replay e asking) asks = omega (arith, clashes (codes "proxy") (replay e asking) is asks)
+        by_task (soak n d) asks = omega (arith, clashes (codes "proxy") (soak n d) is asks)
+        by_task show asks = omega (arith, clashes (codes "proxy") show is asks)
+      by (run_given x0 x1) at = absurd (omega (arith, differs (codes "proxy") (run_given x0 x1) at is))
+      by (talk_given x0 x1 x2) at = absurd (omega (arith, differs (codes "proxy") (talk_given x0 x1 x2) at is))
+      by (engine_given x0 x1 x2 x3 x4) at =
+          absurd (omega (arith, differs (codes "proxy") (engine_given x0 x1 x2 x3 x4) at is))
+      by (ide_given x0 x1) at = absurd (omega (arith, differs (codes "proxy") (ide_given x0 x1) at is))
+      by (replay_given x0 x1 x2) at = absurd (omega (arith, differs (codes "proxy") (replay_given x0 x1 x2) at is))
+      by (soak_given x0 x1) at = absurd (omega (arith, differs (codes "proxy") (soak_given x0 x1) at is))
+      by show_given at = absurd (omega (arith, differs (codes "proxy") show_given at is))
 
     -- ---- `show`: no other name is left
 
     pub show_found : (name ≡ codes "run" → ⊥) → (name ≡ codes "talk" → ⊥) → (name ≡ codes "engine" → ⊥)
         → (name ≡ codes "ide" → ⊥) → (name ≡ codes "replay" → ⊥) → (name ≡ codes "soak" → ⊥)
-        → IsInvocation all show
-    show_found a b c d e f = by i.given refl where
+        → (name ≡ codes "proxy" → ⊥) → IsInvocation all show
+    show_found a b c d e f p = by i.given refl where
       by : (g : Given) → i.given ≡ g → IsInvocation all show
       by show_given at = words_at show_given at
       by (run_given bound files) at = absurd (a (i.name_is ∙ ap name_in at))
@@ -612,6 +724,7 @@ module _ (words : List (String Global)) (name : Text) (rows : List Row) (i : IsG
       by (ide_given port script) at = absurd (d (i.name_is ∙ ap name_in at))
       by (replay_given bound events files) at = absurd (e (i.name_is ∙ ap name_in at))
       by (soak_given count seed) at = absurd (f (i.name_is ∙ ap name_in at))
+      by (proxy_given ides engines registrations sessions) at = absurd (p (i.name_is ∙ ap name_in at))
 
 -- ---- the matches of the whole
 

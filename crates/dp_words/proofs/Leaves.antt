@@ -1,5 +1,5 @@
 -- How a command and the words behind it are read.
-use Rattle.std.proofs.Common.{◌≡◌, ℕ, suc, ◌+◌, ◌≤◌, Bool, true, false, ◌&&◌, not, List, [], ◌∷◌, ◌++◌, length, Option, Some, None, refl, sym, ap, ap₂, subst, ◌∙◌, arith, codes, append_assoc, append-nil}
+use Rattle.std.proofs.Common.{◌≡◌, ℕ, suc, ◌≤◌, Bool, true, false, ◌&&◌, not, List, [], ◌∷◌, ◌++◌, length, Option, Some, None, refl, sym, ap, ap₂, subst, ◌∙◌, arith, codes, append_assoc, append-nil}
 use Rattle.std.specs.Prelude.{if◌then◌else◌, fold, option_and_then, nat_lt, ◌==◌}
 use Rattle.std.specs.List.{list_all}
 use Rattle.std.specs.Option.{option_map_or}
@@ -15,7 +15,7 @@ use Rattle.clap.specs.Walk.{Held, Row, Rule, Text, Waiting, Walk, Step, idle, op
 use Rattle.clap.proofs.OnLiterals.{clap_on_literals}
 use Rattle.dp_words.specs.Plain.{is_plain}
 use Rattle.dp_words.specs.inner.Given.{bound_rows, bounded, row, word_rows}
-use Rattle.dp_words.specs.inner.Shapes.{engine_words, ide_words, plain_row, program_row, replay_words, soak_words, talk_words, top}
+use Rattle.dp_words.specs.inner.Shapes.{engine_words, ide_words, plain_row, program_row, proxy_words, replay_words, soak_words, talk_words, top}
 
 -- ---- words that are plain
 
@@ -584,6 +584,55 @@ unfolding defaults_fault
 soak_lacks_1 name n hn =
     level (S name) (n ∷ []) _ wanting (pass_idle (S name) 1 _ _ n _ hn refl refl _ _ (passed (S name) _)) refl
 
+-- ---- `proxy`
+
+abbrev pub relay : Text → Shape
+relay name = leaf (plain_row name proxy_words)
+
+pub proxy_read : (name i e r s : Text) → is_plain i ≡ true → is_plain e ≡ true → is_plain r ≡ true → is_plain s ≡ true
+    → Passes (relay name) (begun None) (i ∷ e ∷ r ∷ s ∷ [])
+    (at 5 (word_rows proxy_words (i ∷ e ∷ r ∷ [])) (Some (codes "SESSIONS", s ∷ [])) idle)
+proxy_read name i e r s hi he hr hs =
+    pass_idle (relay name) 1 _ _ i _ hi refl refl _ _ (pass_idle (relay name) 2 _ _ e _ he refl refl _ _
+    (pass_idle (relay name) 3 _ _ r _ hr refl refl _ _ (pass_idle (relay name) 4 _ _ s _ hs refl refl _ _
+    (passed (relay name) _))))
+
+pub proxy_fine : (name i e r s : Text) → is_plain i ≡ true → is_plain e ≡ true → is_plain r ≡ true → is_plain s ≡ true
+    → fault (relay name) (i ∷ e ∷ r ∷ s ∷ []) ≡ []
+unfolding defaults_fault
+proxy_fine name i e r s hi he hr hs =
+    level (relay name) (i ∷ e ∷ r ∷ s ∷ []) _ [] (proxy_read name i e r s hi he hr hs) refl
+
+pub proxy_found : (name i e r s : Text) → is_plain i ≡ true → is_plain e ≡ true → is_plain r ≡ true → is_plain s ≡ true
+    → rows_after (relay name).rules [] (i ∷ e ∷ r ∷ s ∷ []) ≡ word_rows proxy_words (i ∷ e ∷ r ∷ s ∷ [])
+proxy_found name i e r s hi he hr hs =
+    rows_at_end (relay name) (i ∷ e ∷ r ∷ s ∷ []) _ (proxy_read name i e r s hi he hr hs)
+
+pub proxy_lacks_4 : (name : Text) → fault (relay name) [] ≡ wanting
+unfolding defaults_fault
+proxy_lacks_4 name = level (relay name) [] _ wanting (passed (relay name) _) refl
+
+pub proxy_lacks_3 : (name i : Text) → is_plain i ≡ true → fault (relay name) (i ∷ []) ≡ wanting
+unfolding defaults_fault
+proxy_lacks_3 name i hi =
+    level (relay name) (i ∷ []) _ wanting (pass_idle (relay name) 1 _ _ i _ hi refl refl _ _ (passed (relay name) _))
+    refl
+
+pub proxy_lacks_2 : (name i e : Text) → is_plain i ≡ true → is_plain e ≡ true
+    → fault (relay name) (i ∷ e ∷ []) ≡ wanting
+unfolding defaults_fault
+proxy_lacks_2 name i e hi he =
+    level (relay name) (i ∷ e ∷ []) _ wanting (pass_idle (relay name) 1 _ _ i _ hi refl refl _ _
+    (pass_idle (relay name) 2 _ _ e _ he refl refl _ _ (passed (relay name) _))) refl
+
+pub proxy_lacks_1 : (name i e r : Text) → is_plain i ≡ true → is_plain e ≡ true → is_plain r ≡ true
+    → fault (relay name) (i ∷ e ∷ r ∷ []) ≡ wanting
+unfolding defaults_fault
+proxy_lacks_1 name i e r hi he hr =
+    level (relay name) (i ∷ e ∷ r ∷ []) _ wanting (pass_idle (relay name) 1 _ _ i _ hi refl refl _ _
+    (pass_idle (relay name) 2 _ _ e _ he refl refl _ _ (pass_idle (relay name) 3 _ _ r _ hr refl refl _ _
+    (passed (relay name) _)))) refl
+
 -- ---- one word too many
 
 abbrev pub HasFault : Kinds → Type 0
@@ -639,6 +688,19 @@ soak_over name n s v vs hn hs hv =
     (soak_read name n s hn hs))))
     (refused (turn_fault (S name) [] end v) (walk_fault (S name) [] (walked (S name).rules [] end v) vs) tail
     (stray (S name) 3 _ _ v hv tt))
+
+pub proxy_over : (name i e r s v : Text) (vs : List Text) → is_plain i ≡ true → is_plain e ≡ true → is_plain r ≡ true
+    → is_plain s ≡ true → is_plain v ≡ true
+    → HasFault (fault (relay name) (i ∷ e ∷ r ∷ s ∷ v ∷ vs))
+unfolding walk_fault
+proxy_over name i e r s v vs hi he hr hs hv =
+    let end = at 5 (word_rows proxy_words (i ∷ e ∷ r ∷ [])) (Some (codes "SESSIONS", s ∷ [])) idle in
+    let tail = tail_fault (relay name) (walk (relay name).rules [] nothing_held (i ∷ e ∷ r ∷ s ∷ v ∷ vs)).held in
+    subst HasFault (sym (ap (λ (k : Kinds). or_else k tail) (pass_then (relay name) (begun None) (i ∷ e ∷ r ∷ s ∷ [])
+    (v ∷ vs) end (proxy_read name i e r s hi he hr hs))))
+    (refused (turn_fault (relay name) [] end v)
+    (walk_fault (relay name) [] (walked (relay name).rules [] end v) vs) tail
+    (stray (relay name) 5 _ _ v hv tt))
 
 -- ---- `show`
 

@@ -1,5 +1,5 @@
 -- How the whole command is read.
-use Rattle.std.proofs.Common.{◌≡◌, ◌+◌, true, false, List, [], ◌∷◌, ◌++◌, Option, Some, None, is_some, refl, sym, ap, ap₂, ◌∙◌, codes, append_assoc, append-nil}
+use Rattle.std.proofs.Common.{◌≡◌, true, false, List, [], ◌∷◌, ◌++◌, Option, Some, None, is_some, refl, sym, ap, ap₂, ◌∙◌, codes, append_assoc, append-nil}
 use Rattle.std.specs.Prelude.{fold, find, option_map}
 use Rattle.clap.specs.Simple.{Shape, built, entered, is_simple, subcommand_of, names_of}
 use Rattle.clap.specs.Kinds.{Kinds, or_else}
@@ -7,7 +7,7 @@ use Rattle.clap.specs.Faults.{fault_of, entered_fault, walk_fault, turn_fault, s
 use Rattle.clap.specs.Walk.{Names, Text, Walk, idle, walked, walk, nothing_held, rows_after, settled, finished, answers_to, subcommand_or_other}
 use Rattle.clap.proofs.OnLiterals.{clap_on_literals}
 use Rattle.dp_words.specs.inner.Shapes.{engine_words, program, replay_words, talk_words}
-use Rattle.dp_words.proofs.Leaves.{I, P, S, above, alone, begun, fault, fault_met, met, no_flag, plain_is}
+use Rattle.dp_words.proofs.Leaves.{I, P, S, above, alone, begun, fault, fault_met, met, no_flag, plain_is, relay}
 use Rattle.dp_words.specs.Plain.{is_plain}
 use Rattle.clap.specs.declared.error.kind.ErrorKind.TheVariants as kind
 
@@ -90,6 +90,10 @@ replay_known = record { met_so = refl; taken = refl; found = λ b. refl; rows = 
 pub soak_known : Known (codes "soak") (S (codes "soak"))
 unfolding clap_on_literals
 soak_known = record { met_so = refl; taken = refl; found = λ b. refl; rows = λ b. refl }
+
+pub proxy_known : Known (codes "proxy") (relay (codes "proxy"))
+unfolding clap_on_literals
+proxy_known = record { met_so = refl; taken = refl; found = λ b. refl; rows = λ b. refl }
 
 pub show_known : Known (codes "show") (alone (codes "show"))
 unfolding clap_on_literals

@@ -11,13 +11,13 @@ use Rattle.clap.specs.Faults.{fault_of}
 use Rattle.clap.specs.Simple.{Shape, subcommand_of}
 use Rattle.clap.specs.Walk.{Row, Text, answers_to}
 use Rattle.dp_outside.specs.Names.{IsKey}
-use Rattle.dp_words.specs.Words.{Invocation, IsInvocation, Task, IsFileWord, run, talk, engine, ide, replay, soak, show, invocation_of, bound_limit, bound_of, default_bound, is_option, not_zero, port_limit, port_of, seed_limit, session_count_of, soak_limit, with_bound}
+use Rattle.dp_words.specs.Words.{Invocation, IsInvocation, Task, IsFileWord, run, talk, engine, ide, replay, soak, proxy, show, invocation_of, bound_limit, bound_of, default_bound, is_option, not_zero, port_limit, port_of, seed_limit, served_count_of, served_limit, session_count_of, soak_limit, with_bound}
 use Rattle.dp_value.specs.Decimals.{decimal_in}
 use Rattle.dp_words.specs.Plain.{are_bounded, are_plain, has_bound, is_plain}
-use Rattle.dp_words.specs.inner.Given.{Given, engine_given, ide_given, replay_given, run_given, show_given, soak_given, talk_given, are_plain_in, requested, bound_given, bounded, name_in, row, rows_in, words_in}
+use Rattle.dp_words.specs.inner.Given.{Given, engine_given, ide_given, proxy_given, replay_given, run_given, show_given, soak_given, talk_given, are_plain_in, requested, bound_given, bounded, name_in, row, rows_in, words_in}
 use Rattle.dp_words.specs.inner.Shapes.{engine_words, program, replay_words, talk_words}
-use Rattle.dp_words.proofs.Leaves.{HasFault, I, P, S, TakesFiles, alone, begun, both, engine_lacks_1, engine_lacks_2, engine_lacks_3, engine_lacks_4, engine_read, engine_rows, engine_takes, fault, few, files, ide_fine, ide_found, ide_lacks_1, ide_lacks_2, ide_over, is_plain_bound, level, many, pass_bound, Passes, replay_lacks_1, replay_lacks_2, replay_read, replay_rows, replay_takes, rows_at_end, run_lacks_1, run_read, run_rows, run_takes, show_fine, show_over, soak_fine, soak_found, soak_lacks_1, soak_lacks_2, soak_over, talk_lacks_1, talk_lacks_2, talk_read, talk_rows, talk_takes, too_many, wanting}
-use Rattle.dp_words.proofs.Programs.{Known, fault_known, rows_known, run_known, talk_known, engine_known, ide_known, replay_known, soak_known, show_known, names, no_words, unknown}
+use Rattle.dp_words.proofs.Leaves.{HasFault, I, P, S, TakesFiles, alone, begun, both, engine_lacks_1, engine_lacks_2, engine_lacks_3, engine_lacks_4, engine_read, engine_rows, engine_takes, fault, few, files, ide_fine, ide_found, ide_lacks_1, ide_lacks_2, ide_over, is_plain_bound, level, many, pass_bound, Passes, proxy_fine, proxy_found, proxy_lacks_1, proxy_lacks_2, proxy_lacks_3, proxy_lacks_4, proxy_over, relay, replay_lacks_1, replay_lacks_2, replay_read, replay_rows, replay_takes, rows_at_end, run_lacks_1, run_read, run_rows, run_takes, show_fine, show_over, soak_fine, soak_found, soak_lacks_1, soak_lacks_2, soak_over, talk_lacks_1, talk_lacks_2, talk_read, talk_rows, talk_takes, too_many, wanting}
+use Rattle.dp_words.proofs.Programs.{Known, fault_known, rows_known, run_known, talk_known, engine_known, ide_known, replay_known, soak_known, proxy_known, show_known, names, no_words, unknown}
 
 -- ---- what tasks want
 
@@ -28,6 +28,7 @@ name_of (engine address key ask) = codes "engine"
 name_of (ide port script) = codes "ide"
 name_of (replay events ask) = codes "replay"
 name_of (soak count seed) = codes "soak"
+name_of (proxy service) = codes "proxy"
 name_of show = codes "show"
 
 -- the first of the words names the task
@@ -39,6 +40,7 @@ named words (engine address key ask) h = (h.behind, h.words_are)
 named words (ide port script) h = (h.number ∷ script ∷ [], h.words_are)
 named words (replay events ask) h = (h.behind, h.words_are)
 named words (soak count seed) h = (h.number ∷ h.drawn ∷ [], h.words_are)
+named words (proxy service) h = (h.ides ∷ h.engines ∷ h.registrations ∷ h.sessions ∷ [], h.words_are)
 named words show h = ([], h)
 
 -- the name and the words behind it
@@ -95,6 +97,7 @@ counted_for (replay events ask) words h b =
     }
 counted_for (ide port script) words h b = absurd cc
 counted_for (soak count seed) words h b = absurd cc
+counted_for (proxy service) words h b = absurd cc
 counted_for show words h b = absurd cc
 
 counted : (name : Text) (behind : List Text) (task : Task) → has_bound name ≡ true → IsInvocation (name ∷ behind) task
@@ -346,7 +349,8 @@ replay_reads bound (e ∷ f ∷ fs) hb hs =
 -- how many words stand behind a command that has no files of a program
 abbrev plain_count : Text → ℕ
 plain_count name =
-    if bytes_eq name (codes "ide") then 2 else (if bytes_eq name (codes "soak") then 2 else 0)
+    if bytes_eq name (codes "ide") then 2
+    else (if bytes_eq name (codes "soak") then 2 else (if bytes_eq name (codes "proxy") then 4 else 0))
 
 plain_behind : (task : Task) (words : List Text) (h : IsInvocation words task) → has_bound (name_of task) ≡ false
     → length (named words task h).0 ≡ plain_count (name_of task)
@@ -356,6 +360,7 @@ plain_behind (engine address key ask) words h e = absurd cc
 plain_behind (ide port script) words h e = refl
 plain_behind (replay events ask) words h e = absurd cc
 plain_behind (soak count seed) words h e = refl
+plain_behind (proxy service) words h e = refl
 plain_behind show words h e = refl
 
 -- no task is asked for by another number of words
@@ -431,6 +436,57 @@ soak_reads (p ∷ s ∷ v ∷ vs) h =
       other_count (codes "soak") (p ∷ s ∷ v ∷ vs) refl (λ e. omega (arith, e)),
     )
 
+proxy_reads : (behind : List Text) → list_all is_plain behind ≡ true → Reading (codes "proxy" ∷ behind)
+proxy_reads [] h = inr (
+  faulty (codes "proxy") (relay (codes "proxy")) proxy_known [] wanting tt (proxy_lacks_4 (codes "proxy")),
+  other_count (codes "proxy") [] refl (λ e. omega (arith, e)),
+)
+proxy_reads (i ∷ []) h = inr (
+  faulty (codes "proxy") (relay (codes "proxy")) proxy_known (i ∷ []) wanting tt
+      (proxy_lacks_3 (codes "proxy") i (both (is_plain i) true h).0),
+  other_count (codes "proxy") (i ∷ []) refl (λ e. omega (arith, e)),
+)
+proxy_reads (i ∷ e ∷ []) h =
+    let q = both (is_plain i) (list_all is_plain (e ∷ [])) h in
+    inr (
+      faulty (codes "proxy") (relay (codes "proxy")) proxy_known (i ∷ e ∷ []) wanting tt
+          (proxy_lacks_2 (codes "proxy") i e q.0 (both (is_plain e) true q.1).0),
+      other_count (codes "proxy") (i ∷ e ∷ []) refl (λ x. omega (arith, x)),
+    )
+proxy_reads (i ∷ e ∷ r ∷ []) h =
+    let q = both (is_plain i) (list_all is_plain (e ∷ r ∷ [])) h in
+    let t = both (is_plain e) (list_all is_plain (r ∷ [])) q.1 in
+    inr (
+      faulty (codes "proxy") (relay (codes "proxy")) proxy_known (i ∷ e ∷ r ∷ []) wanting tt
+          (proxy_lacks_1 (codes "proxy") i e r q.0 t.0 (both (is_plain r) true t.1).0),
+      other_count (codes "proxy") (i ∷ e ∷ r ∷ []) refl (λ x. omega (arith, x)),
+    )
+proxy_reads (i ∷ e ∷ r ∷ s ∷ []) h =
+    let q = both (is_plain i) (list_all is_plain (e ∷ r ∷ s ∷ [])) h in
+    let t = both (is_plain e) (list_all is_plain (r ∷ s ∷ [])) q.1 in
+    let u = both (is_plain r) (list_all is_plain (s ∷ [])) t.1 in
+    let hs = (both (is_plain s) true u.1).0 in
+    inl (record {
+      given = proxy_given i e r s;
+      words_are = refl;
+      plain = h;
+      fine = fine_known (codes "proxy") (relay (codes "proxy")) proxy_known (i ∷ e ∷ r ∷ s ∷ [])
+          (proxy_fine (codes "proxy") i e r s q.0 t.0 u.0 hs);
+      rows = rows_known (codes "proxy") (relay (codes "proxy")) proxy_known (i ∷ e ∷ r ∷ s ∷ [])
+          ∙ ap (λ (l : List Row). Some (codes "proxy", l)) (proxy_found (codes "proxy") i e r s q.0 t.0 u.0 hs);
+    })
+proxy_reads (i ∷ e ∷ r ∷ s ∷ v ∷ vs) h =
+    let q = both (is_plain i) (list_all is_plain (e ∷ r ∷ s ∷ v ∷ vs)) h in
+    let t = both (is_plain e) (list_all is_plain (r ∷ s ∷ v ∷ vs)) q.1 in
+    let u = both (is_plain r) (list_all is_plain (s ∷ v ∷ vs)) t.1 in
+    let w = both (is_plain s) (list_all is_plain (v ∷ vs)) u.1 in
+    let x = both (is_plain v) (list_all is_plain vs) w.1 in
+    inr (
+      faulty_so (codes "proxy") (relay (codes "proxy")) proxy_known (i ∷ e ∷ r ∷ s ∷ v ∷ vs)
+          (proxy_over (codes "proxy") i e r s v vs q.0 t.0 u.0 w.0 x.0),
+      other_count (codes "proxy") (i ∷ e ∷ r ∷ s ∷ v ∷ vs) refl (λ y. omega (arith, y)),
+    )
+
 show_reads : (behind : List Text) → list_all is_plain behind ≡ true → Reading (codes "show" ∷ behind)
 show_reads [] h = inl (record {
   given = show_given;
@@ -452,6 +508,7 @@ no_command (engine address key ask) e = absurd cc
 no_command (ide port script) e = absurd cc
 no_command (replay events ask) e = absurd cc
 no_command (soak count seed) e = absurd cc
+no_command (proxy service) e = absurd cc
 no_command show e = absurd cc
 
 -- a bound and the words behind it
@@ -500,12 +557,13 @@ abbrev label : Text → Text × List Text
 label name = (name, [])
 
 -- the command that is found, by which names it has
-abbrev found_by : Bool → Bool → Bool → Bool → Bool → Bool → Bool → Option (Text × List Text)
-found_by a b c d e f g =
+abbrev found_by : Bool → Bool → Bool → Bool → Bool → Bool → Bool → Bool → Option (Text × List Text)
+found_by a b c d e f g h =
     if a || false then Some (label (codes "run")) else (if b || false then Some (label (codes "talk"))
     else (if c || false then Some (label (codes "engine")) else (if d || false then Some (label (codes "ide"))
     else (if e || false then Some (label (codes "replay")) else (if f || false then Some (label (codes "soak"))
-    else (if g || false then Some (label (codes "show")) else None))))))
+    else (if g || false then Some (label (codes "proxy")) else (if h || false then Some (label (codes "show"))
+    else None)))))))
 
 abbrev fits : Text → List Text → Type 0
 fits name behind = (if has_bound name then are_bounded behind else list_all is_plain behind) ≡ true
@@ -543,16 +601,18 @@ reads (name ∷ behind) h =
     (λ f. split_reads (codes "replay") behind f replay_reads) parts.1) (λ no_replay.
     choose (codes "soak") name
     (λ e. subst (λ n. fits n behind → Reading (n ∷ behind)) e (λ f. soak_reads behind f) parts.1) (λ no_soak.
+    choose (codes "proxy") name
+    (λ e. subst (λ n. fits n behind → Reading (n ∷ behind)) e (λ f. proxy_reads behind f) parts.1) (λ no_proxy.
     choose (codes "show") name
     (λ e. subst (λ n. fits n behind → Reading (n ∷ behind)) e (λ f. show_reads behind f) parts.1) (λ no_show_name.
     let none : find (answers_to name) names ≡ None = λ i. found_by (no_run i) (no_talk i) (no_engine i)
     (no_ide_name i)
-    (no_replay i) (no_soak i) (no_show_name i) in
+    (no_replay i) (no_soak i) (no_proxy i) (no_show_name i) in
     inr (
       subst HasFault (sym (unknown name behind parts.0 none)) tt,
       λ task asks. no_command task (subst (λ (n : Text). find (answers_to n) names ≡ None)
           (same_name name behind task asks) none),
-    ))))))))
+    )))))))))
 
 -- ---- words that ask for something are plain
 
@@ -584,6 +644,12 @@ count_plain word n e = by (decimal_in soak_limit word) refl e where
   by : (o : Option ℕ) → decimal_in soak_limit word ≡ o → not_zero o ≡ Some n → is_plain word ≡ true
   by None is no_count = absurd cc
   by (Some m) is some = number_plain soak_limit m word is
+
+served_plain : (word : Text) (n : ℕ) → served_count_of word ≡ Some n → is_plain word ≡ true
+served_plain word n e = by (decimal_in served_limit word) refl e where
+  by : (o : Option ℕ) → decimal_in served_limit word ≡ o → not_zero o ≡ Some n → is_plain word ≡ true
+  by None is no_count = absurd cc
+  by (Some m) is some = number_plain served_limit m word is
 
 plain_if : (word : Text) → 1 ≤ length word → is_option word ≡ false → is_plain word ≡ true
 plain_if [] some none = absurd (omega (arith, some))
@@ -664,6 +730,7 @@ asks_behind (replay events ask) words h b =
     (files_plain ask.names h.replays.files.named))
 asks_behind (ide port script) words h b = absurd cc
 asks_behind (soak count seed) words h b = absurd cc
+asks_behind (proxy service) words h b = absurd cc
 asks_behind show words h b = absurd cc
 
 pub asks_plain : (words : List Text) (task : Task) → IsInvocation words task → are_plain words ≡ true
@@ -680,4 +747,11 @@ asks_plain words (soak count seed) h =
     ap are_plain h.words_are
     ∙ more_plain h.number (h.drawn ∷ []) (count_plain h.number count h.is_count)
     (more_plain h.drawn [] (number_plain seed_limit seed h.drawn h.is_seed) refl)
+asks_plain words (proxy service) h =
+    ap are_plain h.words_are
+    ∙ more_plain h.ides (h.engines ∷ h.registrations ∷ h.sessions ∷ []) (port_plain h.ides service.ides h.is_ides)
+    (more_plain h.engines (h.registrations ∷ h.sessions ∷ []) (port_plain h.engines service.engines h.is_engines)
+    (more_plain h.registrations (h.sessions ∷ [])
+    (served_plain h.registrations service.registrations h.is_registrations)
+    (more_plain h.sessions [] (served_plain h.sessions service.sessions h.is_sessions) refl)))
 asks_plain words show h = ap are_plain h

@@ -3,8 +3,9 @@ use Rattle.std.specs.Prelude.{map, string_bytes}
 use Rattle.dp_words.specs.declared.words.Address.{Address as CodeAddress}
 use Rattle.dp_words.specs.declared.words.Command.{Command}
 use Rattle.dp_words.specs.declared.words.Program.{Program}
+use Rattle.dp_words.specs.declared.words.Proxy.{Proxy}
 use Rattle.dp_words.specs.declared.words.Command.TheVariants as told
-use Rattle.dp_words.specs.Words.{Address, Invocation, Task, run, talk, engine, ide, replay, soak, show}
+use Rattle.dp_words.specs.Words.{Address, Invocation, Service, Task, run, talk, engine, ide, replay, soak, proxy, show}
 
 -- a program that is asked for
 abbrev pub invocation_seen : Program → Invocation
@@ -14,6 +15,15 @@ invocation_seen program =
 -- the address of an IDE
 abbrev pub address_seen : CodeAddress → Address
 address_seen address = record { host = address.host.now; port = address.port }
+
+-- what a proxy is to do
+abbrev pub service_seen : Proxy → Service
+service_seen request = record {
+  ides = request.ide_port;
+  engines = request.engine_port;
+  registrations = request.registrations;
+  sessions = request.sessions;
+}
 
 -- a command
 abbrev pub task_of : Command → Task
@@ -25,4 +35,5 @@ task_of (told.Engine request) =
 task_of (told.Ide request) = ide request.port request.script.now
 task_of (told.Replay request) = replay request.events.now (invocation_seen request.program)
 task_of (told.Soak request) = soak request.count request.seed
+task_of (told.Proxy request) = proxy (service_seen request)
 task_of told.Show = show

@@ -176,6 +176,33 @@ pub record IsSoak (words : List (List ℕ)) (count seed : ℕ) : Type 0 where
   pub is_count : session_count_of number ≡ Some count
   pub is_seed : decimal_in seed_limit drawn ≡ Some seed
 
+-- the most registrations, and the most sessions, that a proxy may serve
+abbrev pub served_limit : ℕ
+served_limit = 65535
+
+-- how many a proxy serves: a decimal from 1 to the most
+abbrev pub served_count_of : List ℕ → Option ℕ
+served_count_of word = not_zero (decimal_in served_limit word)
+
+-- what a proxy is to do: at which ports IDEs and engines come, and how many of each it serves
+pub record Service : Type 0 where
+  pub ides : ℕ
+  pub engines : ℕ
+  pub registrations : ℕ
+  pub sessions : ℕ
+
+-- the words are `proxy IDEPORT ENGINEPORT REGISTRATIONS SESSIONS`
+pub record IsProxy (words : List (List ℕ)) (service : Service) : Type 0 where
+  pub ides : List ℕ
+  pub engines : List ℕ
+  pub registrations : List ℕ
+  pub sessions : List ℕ
+  pub words_are : words ≡ codes "proxy" ∷ ides ∷ engines ∷ registrations ∷ sessions ∷ []
+  pub is_ides : port_of ides ≡ Some service.ides
+  pub is_engines : port_of engines ≡ Some service.engines
+  pub is_registrations : served_count_of registrations ≡ Some service.registrations
+  pub is_sessions : served_count_of sessions ≡ Some service.sessions
+
 -- ---- what is asked for
 
 pub data Task : Type 0 where
@@ -185,6 +212,7 @@ pub data Task : Type 0 where
   ide : (port : ℕ) → (script : List ℕ) → Task
   replay : (events : List ℕ) → Invocation → Task
   soak : (count seed : ℕ) → Task
+  proxy : Service → Task
   show : Task
 
 -- the words ask for this
@@ -195,6 +223,7 @@ IsInvocation words (engine address key ask) = IsEngine words address key ask
 IsInvocation words (ide port script) = IsIde words port script
 IsInvocation words (replay events ask) = IsReplay words events ask
 IsInvocation words (soak count seed) = IsSoak words count seed
+IsInvocation words (proxy service) = IsProxy words service
 IsInvocation words show = words ≡ codes "show" ∷ []
 
 -- the program that all its files make, where they are those of one
@@ -205,6 +234,7 @@ invocation_in (engine address key ask) = Some ask
 invocation_in (ide port script) = None
 invocation_in (replay events ask) = None
 invocation_in (soak count seed) = None
+invocation_in (proxy service) = None
 invocation_in show = None
 
 abbrev pub requested_names : Option Invocation → List (List ℕ)
@@ -220,6 +250,7 @@ files_in task = requested_names (invocation_in task)
 -- whether files are fetched for it
 abbrev pub uses_shelf : Task → Bool
 uses_shelf (soak count seed) = false
+uses_shelf (proxy service) = false
 uses_shelf show = false
 uses_shelf task = true
 
@@ -227,4 +258,10 @@ uses_shelf task = true
 abbrev pub uses_net : Task → Bool
 uses_net (engine address key ask) = true
 uses_net (ide port script) = true
+uses_net (proxy service) = true
 uses_net task = false
+
+-- whether threads are started for it
+abbrev pub uses_spawner : Task → Bool
+uses_spawner (proxy service) = true
+uses_spawner task = false

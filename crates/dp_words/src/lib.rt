@@ -8,5 +8,5 @@ mod words;
 
 pub use dp_value::Memory;
 pub use words::{
-    Address, Command, DEFAULT_BOUND, Engine, Ide, Program, Replay, Soak, Talk, read_words,
+    Address, Command, DEFAULT_BOUND, Engine, Ide, Program, Proxy, Replay, Soak, Talk, read_words,
 };

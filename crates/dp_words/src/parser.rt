@@ -105,6 +105,17 @@ fn soak<'a>(alloc: Global) -> Result<Command<'a>, AllocError>
         .arg(word(alloc, "SEED"))
 }
 
+/// `proxy IDEPORT ENGINEPORT REGISTRATIONS SESSIONS`
+fn proxy<'a>(alloc: Global) -> Result<Command<'a>, AllocError>
+    ensures { IfOk result (λ c. shape_of c ≡ shape.proxy) }
+{
+    Command::new(alloc, "proxy")
+        .arg(word(alloc, "IDEPORT"))?
+        .arg(word(alloc, "ENGINEPORT"))?
+        .arg(word(alloc, "REGISTRATIONS"))?
+        .arg(word(alloc, "SESSIONS"))
+}
+
 /// The program's own name, and how its words are read.
 fn settings<'a>(alloc: Global) -> Command<'a>
     ensures { app_of result ≡ shape.settings }
@@ -128,6 +139,7 @@ fn program<'a>(alloc: Global) -> Result<Command<'a>, AllocError>
         .subcommand(ide(alloc)?)?
         .subcommand(replay(alloc)?)?
         .subcommand(soak(alloc)?)?
+        .subcommand(proxy(alloc)?)?
         .subcommand(Command::new(alloc, "show"))
 }
 

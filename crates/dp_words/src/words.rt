@@ -5,6 +5,7 @@ ghost use Rattle.std.specs.Option.{option_map};
 ghost use Rattle.clap.specs.Words.{first_of, found_of, rows_of};
 ghost use Rattle.dp_words.specs.Words.{AreFileWords, Invocation, IsFileWord, IsHostWord, IsInvocation, IsSession};
 ghost use Rattle.dp_words.specs.Words.{Task, bound_of as bound_word, port_of, session_count_of, seed_limit};
+ghost use Rattle.dp_words.specs.Words.{served_count_of};
 ghost use Rattle.dp_value.specs.Decimals.{decimal_in};
 ghost use Rattle.dp_words.specs.Commands.{invocation_seen, task_of};
 ghost use Rattle.dp_words.specs.Plain.{are_plain};
@@ -68,6 +69,15 @@ pub struct Soak {
     pub seed: u64,
 }
 
+/// A proxy that is asked for: at which ports IDEs and engines come, and how many of each it serves.
+#[derive(Clone, Copy, Debug)]
+pub struct Proxy {
+    pub ide_port: u16,
+    pub engine_port: u16,
+    pub registrations: u32,
+    pub sessions: u32,
+}
+
 /// What the program is asked for.
 #[derive(Clone, Copy, Debug)]
 pub enum Command<'a> {
@@ -83,6 +93,8 @@ pub enum Command<'a> {
     Replay(Replay<'a>),
     /// The tally of events that are drawn.
     Soak(Soak),
+    /// Sessions and registrations over links, in threads.
+    Proxy(Proxy),
     /// The elements of the packets that are read.
     Show,
 }
@@ -338,6 +350,50 @@ fn read_soak(given: &ArgMatches) -> Option<Soak>
     Some(Soak { count, seed })
 }
 
+/// The most registrations, and the most sessions, that a proxy may serve.
+const SERVED_LIMIT: u64 = 65_535;
+
+/// How many a proxy serves: a decimal from 1 to the most.
+fn read_served(word: &str) -> Option<u32>
+    ensures { result ≡ served_count_of word.now }
+{
+    let served = decimal(word.as_bytes(), SERVED_LIMIT)?;
+    if served == 0 {
+        return None;
+    }
+    Some(served as u32)
+}
+
+/// `proxy IDEPORT ENGINEPORT REGISTRATIONS SESSIONS`
+fn read_proxy(given: &ArgMatches) -> Option<Proxy>
+    ensures found { IfSome result (λ p.
+        (option_and_then port_of (first_of (codes "IDEPORT") (rows_of (found_of given.now))) ≡ Some p.ide_port)
+        × (option_and_then port_of (first_of (codes "ENGINEPORT") (rows_of (found_of given.now)))
+        ≡ Some p.engine_port)
+        × (option_and_then served_count_of (first_of (codes "REGISTRATIONS") (rows_of (found_of given.now)))
+        ≡ Some p.registrations)
+        × (option_and_then served_count_of (first_of (codes "SESSIONS") (rows_of (found_of given.now)))
+        ≡ Some p.sessions)) }
+    ensures none { IfNone result ((ides engines registrations sessions : List ℕ) (a b c d : ℕ)
+        → first_of (codes "IDEPORT") (rows_of (found_of given.now)) ≡ Some ides
+        → first_of (codes "ENGINEPORT") (rows_of (found_of given.now)) ≡ Some engines
+        → first_of (codes "REGISTRATIONS") (rows_of (found_of given.now)) ≡ Some registrations
+        → first_of (codes "SESSIONS") (rows_of (found_of given.now)) ≡ Some sessions
+        → port_of ides ≡ Some a → port_of engines ≡ Some b
+        → served_count_of registrations ≡ Some c → served_count_of sessions ≡ Some d → ⊥) }
+{
+    let ide_port = read_port(word_of(given, "IDEPORT")?)?;
+    let engine_port = read_port(word_of(given, "ENGINEPORT")?)?;
+    let registrations = read_served(word_of(given, "REGISTRATIONS")?)?;
+    let sessions = read_served(word_of(given, "SESSIONS")?)?;
+    Some(Proxy {
+        ide_port,
+        engine_port,
+        registrations,
+        sessions,
+    })
+}
+
 /// What a command of this name asks for with what it is given.
 #[tactic(auto, using(crate::proofs::GivenLaws::few_files))]
 fn command_named<'a>(words: &'a [String], name: &str, given: &ArgMatches<'a>) -> Option<Command<'a>>
@@ -362,6 +418,9 @@ fn command_named<'a>(words: &'a [String], name: &str, given: &ArgMatches<'a>) ->
     }
     if name == "soak" {
         return Some(Command::Soak(read_soak(given)?));
+    }
+    if name == "proxy" {
+        return Some(Command::Proxy(read_proxy(given)?));
     }
     Some(Command::Show)
 }

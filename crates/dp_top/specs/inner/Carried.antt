@@ -1,6 +1,6 @@
 -- What carrying out a command came to, by what the objects tell before and after.
 use Rattle.std.specs.Prelude.{◌≡◌, ◌≤◌, ℕ, false, List, Some, Result, IfOk, MatchResult}
-use Rattle.dp_words.specs.Words.{Invocation, Task, replay, invocation_in, uses_shelf}
+use Rattle.dp_words.specs.Words.{Invocation, Task, replay, invocation_in, uses_shelf, uses_spawner}
 use Rattle.dp_top.specs.declared.failures.Refused.{Refused}
 use Rattle.dp_top.specs.Seen.{Seen}
 use Rattle.dp_top.specs.Statuses.{exit_limit}
@@ -19,5 +19,6 @@ pub record IsCarriedOut (result : Result ℕ Refused) (task : Task) (old new : S
   pub replay_held : (events : List ℕ) (ask : Invocation) → task ≡ replay events ask
       → AreCompleteWith events ask result old new
   pub unshelved : uses_shelf task ≡ false → new.shelf ≡ old.shelf
+  pub unspawned : uses_spawner task ≡ false → new.spawner ≡ old.spawner
   pub fetched : IsFetchedFor task old.shelf.fetched new.shelf.fetched
   pub goes_on : Continues old new

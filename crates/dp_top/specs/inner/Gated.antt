@@ -1,5 +1,5 @@
 -- What the code tells of a script that is played over a link that another machine makes.
-use Rattle.std.specs.Prelude.{◌≡◌, ℕ, ◌+◌, ◌<◌, ◌≤◌, List, [], ◌∷◌, length, Option, None, Some, Result, Ok, Err}
+use Rattle.std.specs.Prelude.{◌≡◌, ℕ, ◌+◌, ◌<◌, ◌≤◌, Bool, true, false, List, [], ◌∷◌, length, Option, None, Some, Result, Ok, Err}
 use Rattle.dp_outside.specs.Changes.{Change, IsUntouched}
 use Rattle.dp_outside.specs.Links.{Link}
 use Rattle.dp_ide.specs.declared.errors.IdeError.{IdeError}
@@ -10,7 +10,7 @@ use Rattle.dp_top.specs.declared.failures.Failure.TheVariants as failure
 use Rattle.dp_ide.specs.Scripts.{IsScript}
 use Rattle.dp_top.specs.Ide.{failure_of}
 use Rattle.dp_top.specs.Lines.{lines_limit}
-use Rattle.dp_top.specs.Links.{IsAccepted, IsUncalled, IsUsed, ReportsLinks}
+use Rattle.dp_top.specs.Links.{IsAccepted, IsUncalled, IsUsed, Reports}
 use Rattle.dp_top.specs.Seen.{Net}
 
 -- ---- the script
@@ -24,19 +24,22 @@ pub record IsWholeScript (bytes : List ℕ) (instructions : List Instruction) : 
 
 -- what a gate tells, and how often it and what came back to it failed
 pub record DoorSeen : Type 0 where
+  pub accepts : Option (List Bool)
   pub accepted : Option (List Link)
   pub retired : Option (List Link)
   pub faults : ℕ
   pub returned : ℕ
 
--- a new gate gave no link
+-- a new gate was asked for one link, and gave none
 pub record NoCall (door : DoorSeen) (out : Change) : Type 0 where
-  pub gave : ReportsLinks door.accepted []
-  pub took : ReportsLinks door.retired []
+  pub accepts : Reports door.accepts (false ∷ [])
+  pub gave : Reports door.accepted []
+  pub took : Reports door.retired []
   pub failed : 0 < door.faults
   pub out_stays : IsUntouched out
 
--- a new gate gave one link, over which the script was played, and took it back
+-- a new gate was asked for one link and gave it; over it the script was played; the gate took it
+-- back
 pub record Called (end : Result (Unit {0}) IdeError) (instructions : List Instruction)
     (door : DoorSeen) (out : Change) : Type 0 where
   pub given : Link
@@ -44,8 +47,9 @@ pub record Called (end : Result (Unit {0}) IdeError) (instructions : List Instru
   pub source : Change
   pub sink : Change
   pub used : IsUsed given back source sink
-  pub gave : ReportsLinks door.accepted (given ∷ [])
-  pub took : ReportsLinks door.retired (back ∷ [])
+  pub accepts : Reports door.accepts (true ∷ [])
+  pub gave : Reports door.accepted (given ∷ [])
+  pub took : Reports door.retired (back ∷ [])
   pub counted : 0 < source.faults + sink.faults → 0 < door.faults + door.returned
   pub ends : Ends instructions end source sink out
 

@@ -10,6 +10,7 @@ pub record Names : Type 0 where
   pub out : GName
   pub err : GName
   pub net : GName
+  pub spawner : GName
 
 pub record Lent : Type 0 where
   pub seen : Seen
@@ -24,6 +25,7 @@ pub record Continues (old new : Seen) : Type 0 where
   pub err : old.err.faults ≤ new.err.faults
   pub net : old.net.faults ≤ new.net.faults
   pub returned : old.net.returned ≤ new.net.returned
+  pub spawner : old.spawner.faults ≤ new.spawner.faults
 
 -- likewise, and they are the same objects
 pub record GoesOn (old new : Lent) : Type 0 where

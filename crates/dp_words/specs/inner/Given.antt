@@ -6,7 +6,7 @@ use Rattle.clap.specs.declared.builder.value_parser.Reading.TheVariants.{AsWritt
 use Rattle.clap.specs.declared.parser.matches.ValueSource.TheVariants.{CommandLine}
 use Rattle.dp_words.specs.Words.{Invocation, bound_of, default_bound}
 use Rattle.dp_words.specs.Plain.{is_plain}
-use Rattle.dp_words.specs.inner.Shapes.{engine_words, ide_words, replay_words, soak_words, talk_words}
+use Rattle.dp_words.specs.inner.Shapes.{engine_words, ide_words, proxy_words, replay_words, soak_words, talk_words}
 
 pub data Given : Type 0 where
   run_given : (bound : Option Text) → (files : List Text) → Given
@@ -15,6 +15,7 @@ pub data Given : Type 0 where
   ide_given : (port script : Text) → Given
   replay_given : (bound : Option Text) → (events : Text) → (files : List Text) → Given
   soak_given : (count seed : Text) → Given
+  proxy_given : (ides engines registrations sessions : Text) → Given
   show_given : Given
 
 -- ---- the words
@@ -26,6 +27,7 @@ name_in (engine_given bound host port key files) = codes "engine"
 name_in (ide_given port script) = codes "ide"
 name_in (replay_given bound events files) = codes "replay"
 name_in (soak_given count seed) = codes "soak"
+name_in (proxy_given ides engines registrations sessions) = codes "proxy"
 name_in show_given = codes "show"
 
 abbrev pub bound_in : Given → Option Text
@@ -35,6 +37,7 @@ bound_in (engine_given bound host port key files) = bound
 bound_in (ide_given port script) = None
 bound_in (replay_given bound events files) = bound
 bound_in (soak_given count seed) = None
+bound_in (proxy_given ides engines registrations sessions) = None
 bound_in show_given = None
 
 -- those of the command that stand before the files
@@ -45,6 +48,8 @@ first_in (engine_given bound host port key files) = host ∷ port ∷ key ∷ []
 first_in (ide_given port script) = port ∷ script ∷ []
 first_in (replay_given bound events files) = events ∷ []
 first_in (soak_given count seed) = count ∷ seed ∷ []
+first_in (proxy_given ides engines registrations sessions) =
+    ides ∷ engines ∷ registrations ∷ sessions ∷ []
 first_in show_given = []
 
 abbrev pub files_in : Given → List Text
@@ -54,6 +59,7 @@ files_in (engine_given bound host port key files) = files
 files_in (ide_given port script) = []
 files_in (replay_given bound events files) = files
 files_in (soak_given count seed) = []
+files_in (proxy_given ides engines registrations sessions) = []
 files_in show_given = []
 
 -- words behind `--bound N`, or without it
@@ -109,6 +115,7 @@ ids_in (engine_given bound host port key files) = engine_words
 ids_in (ide_given port script) = ide_words
 ids_in (replay_given bound events files) = replay_words
 ids_in (soak_given count seed) = soak_words
+ids_in (proxy_given ides engines registrations sessions) = proxy_words
 ids_in show_given = []
 
 abbrev pub rows_in : Given → List Row

@@ -58,6 +58,10 @@ replay_words = codes "EVENTS" ∷ []
 abbrev pub soak_words : List Text
 soak_words = codes "N" ∷ codes "SEED" ∷ []
 
+abbrev pub proxy_words : List Text
+proxy_words =
+    codes "IDEPORT" ∷ codes "ENGINEPORT" ∷ codes "REGISTRATIONS" ∷ codes "SESSIONS" ∷ []
+
 -- ---- the commands
 
 abbrev pub run : Shape
@@ -78,6 +82,9 @@ replay = program_row (codes "replay") replay_words
 abbrev pub soak : Shape
 soak = plain_row (codes "soak") soak_words
 
+abbrev pub proxy : Shape
+proxy = plain_row (codes "proxy") proxy_words
+
 abbrev pub show : Shape
 show = plain_row (codes "show") []
 
@@ -96,5 +103,5 @@ settings = record { top = top; subs = [] }
 abbrev pub program : App
 program = record {
   top = record top { is_leaf = false };
-  subs = run ∷ talk ∷ engine ∷ ide ∷ replay ∷ soak ∷ show ∷ [];
+  subs = run ∷ talk ∷ engine ∷ ide ∷ replay ∷ soak ∷ proxy ∷ show ∷ [];
 }

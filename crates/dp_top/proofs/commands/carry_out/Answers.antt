@@ -1,8 +1,9 @@
 use Rattle.std.proofs.Common.{ap}
+use Rattle.dp_top.proofs.ProxyLaws.{served_within}
 use Rattle.dp_top.proofs.ReplayReports.{complete_with}
 use Rattle.dp_top.proofs.SoakLaws.{count_within}
-use Rattle.dp_words.specs.Words.{IsSoak}
-use Rattle.dp_words.specs.Commands.{invocation_seen, task_of}
+use Rattle.dp_words.specs.Words.{IsProxy, IsSoak}
+use Rattle.dp_words.specs.Commands.{invocation_seen, service_seen, task_of}
 use Rattle.dp_top.proofs.commands.carry_out.Goals as goal
 
 pub returns-in-Ide-clause-fetched : goal.returns-in-Ide-clause-fetched
@@ -25,3 +26,15 @@ soak-requires-clause-most g c =
     let asks : IsSoak c.requires.invocation.0 c.in-Soak.request.count c.in-Soak.request.seed = rw c.in-Soak.is at
     c.requires.invocation.1 in
     (count_within asks.number c.in-Soak.request.count asks.is_count).1
+
+pub proxy-requires-clause-registrations : goal.proxy-requires-clause-registrations
+proxy-requires-clause-registrations g c =
+    let asks : IsProxy c.requires.invocation.0 (service_seen c.in-Proxy.request) = rw c.in-Proxy.is at
+    c.requires.invocation.1 in
+    λ lifetimes live. served_within asks.registrations c.in-Proxy.request.registrations asks.is_registrations
+
+pub proxy-requires-clause-sessions : goal.proxy-requires-clause-sessions
+proxy-requires-clause-sessions g c =
+    let asks : IsProxy c.requires.invocation.0 (service_seen c.in-Proxy.request) = rw c.in-Proxy.is at
+    c.requires.invocation.1 in
+    λ lifetimes live. served_within asks.sessions c.in-Proxy.request.sessions asks.is_sessions

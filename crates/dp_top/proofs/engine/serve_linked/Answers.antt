@@ -11,6 +11,7 @@ returns-in-Err-clause-ends g c =
       undialled =
           not_given (address_seen c.args.request.address) c.args.host.now _ _ c.requires.host
           (rw c.in-Err.is at c.dial.ensures.dials) c.dial.ensures.retired
+          c.dial.ensures.requested c.dial.ensures.shut
           (rw c.in-Err.is at c.dial.ensures.cause).failed c.dial.ensures.returned;
       is_why = c.unnamed.ensures.failure;
       is_name = c.unnamed.ensures.name;
@@ -28,7 +29,9 @@ returns-in-Ok-clause-ends g c =
     (net_seen g.N.Dialer c.dial.new.self)
     (net_seen g.N.Dialer c.retire.new.self)
     c.requires.host c.in-Ok.ensures.source c.in-Ok.ensures.sink
-    c.in-Ok.ensures.dials c.dial.ensures.retired c.dial.ensures.cause.later c.dial.ensures.returned
-    c.retire.ensures.dials c.retire.ensures.retired c.retire.ensures.faults
+    c.in-Ok.ensures.dials c.dial.ensures.retired c.dial.ensures.requested c.dial.ensures.shut
+    c.dial.ensures.cause.later c.dial.ensures.returned
+    c.retire.ensures.dials c.retire.ensures.retired c.retire.ensures.requested c.retire.ensures.shut
+    c.retire.ensures.faults
     c.retire.ensures.returned)
     c.serve_program-done.result c.serve_program-done.ensures.ends

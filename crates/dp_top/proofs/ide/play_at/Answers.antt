@@ -8,6 +8,7 @@ use Rattle.dp_top.proofs.ide.play_at.Goals as goal
 pub returns-in-Ok-clause-gated : goal.returns-in-Ok-clause-gated
 returns-in-Ok-clause-gated g c =
     let door : DoorSeen = record {
+      accepts = g.N.Door.Gate.accepts c.meet-end.new.door;
       accepted = g.N.Door.Gate.accepted c.meet-end.new.door;
       retired = g.N.Door.Gate.retired c.meet-end.new.door;
       faults = g.N.Door.Gate.faults c.meet-end.new.door;

@@ -1,4 +1,4 @@
-use Rattle.std.proofs.Common.{◌≡◌, false, true, rules, ap, ap₂, ◌∙◌, refl}
+use Rattle.std.proofs.Common.{◌≡◌, false, true, ap, ap₂, ◌∙◌, refl}
 use Rattle.std.proofs.lemmas.Result.{IfOk-weaker}
 use Rattle.clap.specs.Words.{App, Shape, shape_of, with_subcommand}
 use Rattle.clap.specs.declared.builder.command.Command.{Command}
@@ -13,12 +13,13 @@ local c s is plain = (plain_fields c (ap (λ (x : Shape). x.is_plain) is ∙ pla
 
 pub returns : goal.returns
 returns c =
-    let run_is : shape_of c.in_ok-run.field-0 ≡ row.run = search rules in
-    let talk_is : shape_of c.in_ok-talk.field-0 ≡ row.talk = search rules in
-    let engine_is : shape_of c.in_ok-engine.field-0 ≡ row.engine = search rules in
-    let ide_is : shape_of c.in_ok-ide.field-0 ≡ row.ide = search rules in
-    let replay_is : shape_of c.in_ok-replay.field-0 ≡ row.replay = search rules in
-    let soak_is : shape_of c.in_ok-soak.field-0 ≡ row.soak = search rules in
+    let run_is : shape_of c.in_ok-run.field-0 ≡ row.run = c.in_ok-run.ensures in
+    let talk_is : shape_of c.in_ok-talk.field-0 ≡ row.talk = c.in_ok-talk.ensures in
+    let engine_is : shape_of c.in_ok-engine.field-0 ≡ row.engine = c.in_ok-engine.ensures in
+    let ide_is : shape_of c.in_ok-ide.field-0 ≡ row.ide = c.in_ok-ide.ensures in
+    let replay_is : shape_of c.in_ok-replay.field-0 ≡ row.replay = c.in_ok-replay.ensures in
+    let soak_is : shape_of c.in_ok-soak.field-0 ≡ row.soak = c.in_ok-soak.ensures in
+    let proxy_is : shape_of c.in_ok-proxy.field-0 ≡ row.proxy = c.in_ok-proxy.ensures in
     let show_is : shape_of c.new.result ≡ row.show = ap (λ (a : App). a.top) c.new.ensures.app in
     let one = c.in_ok-subcommand.ensures.shape (local _ _ run_is refl) ∙ ap₂ with_subcommand c.settings.ensures run_is
     in
@@ -27,5 +28,6 @@ returns c =
     let four = c.in_ok-subcommand-4.ensures.shape (local _ _ ide_is refl) ∙ ap₂ with_subcommand three ide_is in
     let five = c.in_ok-subcommand-5.ensures.shape (local _ _ replay_is refl) ∙ ap₂ with_subcommand four replay_is in
     let six = c.in_ok-subcommand-6.ensures.shape (local _ _ soak_is refl) ∙ ap₂ with_subcommand five soak_is in
-    IfOk-weaker c.subcommand-7.result _ _ (λ r h. h.shape c.new.ensures.local ∙ ap₂ with_subcommand six show_is)
-    c.subcommand-7.ensures
+    let seven = c.in_ok-subcommand-7.ensures.shape (local _ _ proxy_is refl) ∙ ap₂ with_subcommand six proxy_is in
+    IfOk-weaker c.subcommand-8.result _ _ (λ r h. h.shape c.new.ensures.local ∙ ap₂ with_subcommand seven show_is)
+    c.subcommand-8.ensures

@@ -1,7 +1,7 @@
 use Rattle.std.proofs.Common.{◌≡◌, Option, Some, None, true, false, sym, ◌∙◌, rules, codes}
 use Rattle.std.specs.Prelude.{IfNone}
-use Rattle.dp_words.specs.Commands.{address_seen, invocation_seen}
-use Rattle.dp_words.proofs.GivenLaws.{engine_found, engine_none, ide_found, ide_none, replay_found, replay_none, run_found, run_none, show_found, soak_found, soak_none, talk_found, talk_none}
+use Rattle.dp_words.specs.Commands.{address_seen, invocation_seen, service_seen}
+use Rattle.dp_words.proofs.GivenLaws.{engine_found, engine_none, ide_found, ide_none, proxy_found, proxy_none, replay_found, replay_none, run_found, run_none, show_found, soak_found, soak_none, talk_found, talk_none}
 use Rattle.dp_words.proofs.words.command_named.Goals as goal
 
 none_so : {A : Type 0} (r : Option A) (P : Type 0) → P → IfNone r P
@@ -85,6 +85,18 @@ returns-in_err-read_soak-clause-none c =
     let named : c.args.name.now ≡ codes "soak" = search rules in
     none_so _ _ (soak_none c.args.words.now c.args.name.now _ c.requires.given named c.in_err-read_soak.ensures.none)
 
+pub returns-then-eq-7-clause-found : goal.returns-then-eq-7-clause-found
+returns-then-eq-7-clause-found c =
+    let named : c.args.name.now ≡ codes "proxy" = search rules in
+    let v = c.in_ok-read_proxy.field-0 in
+    let f = c.in_ok-read_proxy.ensures.found in
+    proxy_found c.args.words.now c.args.name.now _ c.requires.given named (service_seen v) f.0 f.1 f.2 f.3
+
+pub returns-in_err-read_proxy-clause-none : goal.returns-in_err-read_proxy-clause-none
+returns-in_err-read_proxy-clause-none c =
+    let named : c.args.name.now ≡ codes "proxy" = search rules in
+    none_so _ _ (proxy_none c.args.words.now c.args.name.now _ c.requires.given named c.in_err-read_proxy.ensures.none)
+
 pub returns-clause-found : goal.returns-clause-found
 returns-clause-found c =
     let no_run : c.args.name.now ≡ codes "run" → ⊥ = λ e.
@@ -105,4 +117,8 @@ returns-clause-found c =
     let no_soak : c.args.name.now ≡ codes "soak" → ⊥ = λ e.
     let yes : c.eq-6.result ≡ true = search (rules, e) in
     let clash : true ≡ false = sym yes ∙ c.if-eq-6.false in absurd cc in
+    let no_proxy : c.args.name.now ≡ codes "proxy" → ⊥ = λ e.
+    let yes : c.eq-7.result ≡ true = search (rules, e) in
+    let clash : true ≡ false = sym yes ∙ c.if-eq-7.false in absurd cc in
     show_found c.args.words.now c.args.name.now _ c.requires.given no_run no_talk no_engine no_ide no_replay no_soak
+    no_proxy
