@@ -13,12 +13,13 @@ use std::sync::Wait;
 use std::sync::ledger::{Blank, Ledger};
 use std::thread::Threads;
 
-/// How the service ended, and what the sinks of the engine and of its IDE have taken.
+/// How the service ended, what the sinks of the engine and of its IDE have taken, and how many entries the journal has.
 #[derive(Drop)]
 pub struct Served {
     pub end: RelayEnd,
     pub engine: ByteSink,
     pub ide: Option<ByteSink>,
+    pub entries: usize,
 }
 
 /// A source of these bytes, in pieces of three bytes first, and a sink.
@@ -86,5 +87,11 @@ pub fn served_in_memory<R: Threads + Wait + Sync + Send, A: Ledger, B: Ledger, C
         Some((_from, to)) => Some(to),
         None => None,
     };
-    Ok(Served { end, engine, ide })
+    let entries = desk.shut(rt, clerk).journal().len();
+    Ok(Served {
+        end,
+        engine,
+        ide,
+        entries,
+    })
 }

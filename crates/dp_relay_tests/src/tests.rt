@@ -38,10 +38,24 @@ fn served<R: Threads + Wait + Sync + Send>(
     }
 }
 
-/// The IDE gets the first packet byte for byte, the engine the whole command, and both lanes end.
+/// The same with an empty key.
+const EMPTY: &[u8] = b"306\0<?xml version=\"1.0\" encoding=\"iso-8859-1\"?>\n\
+    <init xmlns=\"urn:debugger_protocol_v1\" xmlns:xdebug=\"https://xdebug.org/dbgp/xdebug\" \
+    fileuri=\"file:///srv/a.php\" language=\"PHP\" xdebug:language_version=\"8.3.0\" \
+    protocol_version=\"1.0\" appid=\"77\" idekey=\"\"><engine version=\"3.3.0\">\
+    <![CDATA[Xdebug]]></engine></init>\0";
+
+/// The IDE gets the first packet byte for byte, the engine the whole command, and both lanes end. The journal has the
+/// registration, the admission and the dismissal.
 #[test]
 fn joins_the_holder(rt: HostRuntime) -> Result<(), Fail> {
-    let Served { end, engine, ide } = served(&rt, rt.alloc(), INIT)?;
+    let Served {
+        end,
+        engine,
+        ide,
+        entries,
+    } = served(&rt, rt.alloc(), INIT)?;
+    assert_eq!(rt; entries, 3);
     assert!(rt;
         matches!(
             end,
@@ -60,12 +74,18 @@ fn joins_the_holder(rt: HostRuntime) -> Result<(), Fail> {
     Ok(())
 }
 
-/// A first packet without a key is not passed on.
+/// Whether a service ended for want of a key: nobody was dialed, and the journal has the registration alone.
+fn is_unfit(served: &Served) -> bool {
+    matches!(served.end, RelayEnd::BadInit) && served.ide.is_none() && served.entries == 1
+}
+
+/// A first packet without a key, or with an empty one, is not passed on.
 #[test]
 fn keyless_is_refused(rt: HostRuntime) -> Result<(), Fail> {
-    let served = served(&rt, rt.alloc(), KEYLESS)?;
-    assert!(rt; matches!(served.end, RelayEnd::BadInit));
-    assert!(rt; served.ide.is_none());
+    let served_keyless = served(&rt, rt.alloc(), KEYLESS)?;
+    assert!(rt; is_unfit(&served_keyless));
+    let served_empty = served(&rt, rt.alloc(), EMPTY)?;
+    assert!(rt; is_unfit(&served_empty));
     Ok(())
 }
 
@@ -75,6 +95,7 @@ fn unknown_key_is_refused(rt: HostRuntime) -> Result<(), Fail> {
     let served = served(&rt, rt.alloc(), b"28\0<init idekey=\"Z\"></init>    \0")?;
     assert!(rt; matches!(served.end, RelayEnd::NoSession(Refusal::Unknown)));
     assert!(rt; served.ide.is_none());
+    assert_eq!(rt; served.entries, 2);
     Ok(())
 }
 

@@ -1,8 +1,8 @@
-//! The call of the top call that a row describes, and what came of it.
+//! The call of the top call that a row describes, what came of it, and what had to come.
 
-use crate::network::net;
-use crate::objects::{input, shelf, sink, words};
-use dp_memory_links::ListNet;
+use crate::faults::Place;
+use crate::nets::OneNet;
+use crate::objects::{Setting, input, net, output, shelf, words};
 use dp_outside::{ByteSink, ByteSource, MapShelf, NoSpawner};
 use dp_rows::{Differences, Memory, Row};
 use dp_top::top;
@@ -10,40 +10,23 @@ use std::alloc::Global;
 use std::sync::Wait;
 use std::thread::Threads;
 
-/// The names of the fields that a row has.
-const NAMES: [&[u8]; 16] = [
-    b"words",
-    b"file",
-    b"in",
-    b"cut",
-    b"out",
-    b"err",
-    b"status",
-    b"any",
-    b"shelf_fails",
-    b"input_fails",
-    b"out_fails",
-    b"err_fails",
-    b"link",
-    b"link_fails",
-    b"sent_fails",
-    b"net_fails",
-];
-
-/// What has to come of a call.
+/// What has to come of a call. `sent` is what is put on its link.
 #[derive(Drop)]
-struct Wanted {
-    status: u64,
-    out: Vec<u8>,
-    err: Vec<u8>,
+pub(crate) struct Wanted {
+    pub(crate) status: u64,
+    pub(crate) out: Vec<u8>,
+    pub(crate) err: Vec<u8>,
+    pub(crate) sent: Vec<u8>,
 }
 
-/// What came of it.
+/// What came of it, and whether anything failed.
 #[derive(Drop)]
-struct Found {
+pub(crate) struct Found {
     status: u8,
     out: ByteSink,
     err: ByteSink,
+    net: OneNet,
+    pub(crate) failed: bool,
 }
 
 /// Makes the call over these objects.
@@ -55,26 +38,26 @@ fn call_over<R: Wait + Sync + Threads + Send>(
     input: &mut ByteSource,
     out: &mut ByteSink,
     err: &mut ByteSink,
-    net: &mut ListNet,
+    net: &mut OneNet,
 ) -> u8 {
     let mut spawner: NoSpawner<R> = NoSpawner::new();
     top(rt, alloc, words, shelf, input, out, err, net, &mut spawner)
 }
 
-/// Makes the call.
-fn call_top<R: Wait + Sync + Threads + Send>(
+/// Makes the call of a row.
+pub(crate) fn call_top<R: Wait + Sync + Threads + Send>(
     rt: &R,
     alloc: Global,
     row: &Row<'_>,
     wanted: &Wanted,
-    by_bytes: bool,
+    setting: &Setting,
 ) -> Result<Found, Memory> {
     let words = words(alloc, row)?;
     let mut shelf = shelf(alloc, row)?;
-    let mut input = input(alloc, row, by_bytes)?;
-    let mut out = sink(alloc, row, b"out_fails", wanted.out.as_slice())?;
-    let mut err = sink(alloc, row, b"err_fails", wanted.err.as_slice())?;
-    let mut net = net(alloc, row)?;
+    let mut input = input(alloc, row, setting)?;
+    let mut out = output(alloc, row, wanted.out.as_slice(), Place::Out, setting)?;
+    let mut err = output(alloc, row, wanted.err.as_slice(), Place::Err, setting)?;
+    let mut net = net(alloc, row, setting)?;
     let status = call_over(
         rt,
         alloc,
@@ -85,15 +68,24 @@ fn call_top<R: Wait + Sync + Threads + Send>(
         &mut err,
         &mut net,
     );
-    Ok(Found { status, out, err })
+    let kept = input.faults() == 0 && out.faults() == 0 && err.faults() == 0;
+    let failed = !kept || net.has_failed();
+    Ok(Found {
+        status,
+        out,
+        err,
+        net,
+        failed,
+    })
 }
 
-/// What has to come of the call of a row.
-fn wanted_of(alloc: Global, row: &Row<'_>) -> Result<Wanted, Memory> {
+/// What has to come of the call of a row where all comes and nothing fails.
+pub(crate) fn wanted_of(alloc: Global, row: &Row<'_>) -> Result<Wanted, Memory> {
     Ok(Wanted {
         status: row.number(b"status", 0),
         out: row.bytes(alloc, b"out")?,
         err: row.bytes(alloc, b"err")?,
+        sent: row.bytes(alloc, b"sent")?,
     })
 }
 
@@ -121,7 +113,7 @@ fn compare_status(
 }
 
 /// Tells where what came of a call differs from what had to come.
-fn compare(
+pub(crate) fn compare(
     alloc: Global,
     row: &Row<'_>,
     wanted: &Wanted,
@@ -137,43 +129,37 @@ fn compare(
     if !is_open(row, b"err") {
         differences.compare("err", wanted.err.as_slice(), found.err.taken())?;
     }
+    if row.field(b"sent").is_some() {
+        differences.compare("sent", wanted.sent.as_slice(), found.net.sent())?;
+    }
     Ok(())
 }
 
-/// Tells which fields are not known.
-fn unknown(row: &Row<'_>, differences: &mut Differences) -> Result<(), Memory> {
-    for field in row.fields.iter() {
-        if !NAMES.contains(&field.name) {
-            differences.mistake("unknown field", field.name)?;
+/// How often a text stands in some bytes.
+fn times(bytes: &[u8], text: &[u8]) -> usize {
+    let mut count = 0usize;
+    for at in 0..bytes.len() {
+        if let Some(rest) = bytes.get(at..) {
+            if rest.starts_with(text) {
+                count = count.saturating_add(1);
+            }
         }
     }
-    Ok(())
+    count
 }
 
-/// Makes the call of a row, and tells what differs.
-fn call_once<R: Wait + Sync + Threads + Send>(
-    rt: &R,
+/// Tells whether the text of the field `counts` stands in the output another number of times than it says.
+pub(crate) fn compare_count(
     alloc: Global,
     row: &Row<'_>,
-    by_bytes: bool,
+    found: &Found,
     differences: &mut Differences,
 ) -> Result<(), Memory> {
-    let wanted = wanted_of(alloc, row)?;
-    let found = call_top(rt, alloc, row, &wanted, by_bytes)?;
-    compare(alloc, row, &wanted, &found, differences)
-}
-
-/// Makes the calls of a row, and tells what differs.
-pub(crate) fn differences_of<R: Wait + Sync + Threads + Send>(
-    rt: &R,
-    alloc: Global,
-    row: &Row<'_>,
-) -> Result<Differences, Memory> {
-    let mut differences = Differences::new(alloc);
-    unknown(row, &mut differences)?;
-    call_once(rt, alloc, row, false, &mut differences)?;
-    if row.field(b"cut").is_some() {
-        call_once(rt, alloc, row, true, &mut differences)?;
+    if let Some(field) = row.field(b"counts") {
+        let text = field.content(alloc)?;
+        let count = times(found.out.taken(), text.as_slice());
+        let other = format!(in alloc; "{count}")?;
+        differences.compare("counts", field.text, other.as_bytes())?;
     }
-    Ok(differences)
+    Ok(())
 }

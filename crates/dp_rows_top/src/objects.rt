@@ -1,16 +1,33 @@
 //! The objects in memory that a row describes.
 
+use crate::faults::{Faulty, Place, numbers};
+use crate::links::{LinkPlan, cuts_of};
+use crate::nets::OneNet;
 use dp_outside::{ByteSink, ByteSource, MapShelf};
-use dp_rows::{Field, Memory, Row, unescaped};
+use dp_rows::{Memory, Row, unescaped};
 use std::alloc::Global;
 
-/// A list with the number that a field of a row gives, or an empty one.
-pub(crate) fn numbers(alloc: Global, row: &Row<'_>, name: &[u8]) -> Result<Vec<u64>, Memory> {
-    let mut numbers = Vec::new(alloc);
-    if let Some(number) = row.field(name).and_then(Field::number) {
-        numbers.push(number)?;
+/// How many bytes more than what is wanted an output takes.
+const MORE_ROOM: usize = 1 << 19;
+
+/// How a call is made: how many bytes come, whether byte by byte, and which call of an object fails beside those that
+/// the row says.
+#[derive(Clone, Copy, Debug)]
+pub(crate) struct Setting {
+    pub(crate) length: usize,
+    pub(crate) by_bytes: bool,
+    pub(crate) faulty: Faulty,
+}
+
+impl Setting {
+    /// All bytes come, and no call fails but those that the row says.
+    pub(crate) fn whole(by_bytes: bool) -> Setting {
+        Setting {
+            length: usize::MAX,
+            by_bytes,
+            faulty: Faulty::none(),
+        }
     }
-    Ok(numbers)
 }
 
 /// A text with escapes, as a text.
@@ -44,24 +61,44 @@ pub(crate) fn shelf(alloc: Global, row: &Row<'_>) -> Result<MapShelf, Memory> {
     MapShelf::new(files, numbers(alloc, row, b"shelf_fails")?)
 }
 
-/// The input, byte by byte, or in pieces as large as the reader takes them.
-pub(crate) fn input(alloc: Global, row: &Row<'_>, by_bytes: bool) -> Result<ByteSource, Memory> {
-    let bytes = row.bytes(alloc, b"in")?;
-    let cuts = if by_bytes {
-        vec![in alloc; 1usize; bytes.len()]?
-    } else {
-        Vec::new(alloc)
-    };
-    ByteSource::new(bytes, cuts, numbers(alloc, row, b"input_fails")?)
+/// The first bytes of the field of this name, so many as come.
+fn front(alloc: Global, row: &Row<'_>, name: &[u8], setting: &Setting) -> Result<Vec<u8>, Memory> {
+    let mut bytes = row.bytes(alloc, name)?;
+    bytes.truncate(setting.length);
+    Ok(bytes)
 }
 
-/// A sink with room for more than what is wanted of it, of which the put of the number in the field of this name fails.
-pub(crate) fn sink(
+/// The input.
+pub(crate) fn input(alloc: Global, row: &Row<'_>, setting: &Setting) -> Result<ByteSource, Memory> {
+    let bytes = front(alloc, row, b"in", setting)?;
+    let cuts = cuts_of(alloc, bytes.len(), setting.by_bytes)?;
+    ByteSource::new(bytes, cuts, setting.faulty.calls(alloc, row, Place::Input)?)
+}
+
+/// An output with room for more than what is wanted of it.
+pub(crate) fn output(
     alloc: Global,
     row: &Row<'_>,
-    fails: &[u8],
     wanted: &[u8],
+    place: Place,
+    setting: &Setting,
 ) -> Result<ByteSink, Memory> {
-    let room = wanted.len().saturating_add(65_536);
-    ByteSink::new(alloc, room, numbers(alloc, row, fails)?)
+    let room = wanted.len().saturating_add(MORE_ROOM);
+    ByteSink::new(alloc, room, setting.faulty.calls(alloc, row, place)?)
+}
+
+/// The network, with the link of the row, if it has one.
+pub(crate) fn net(alloc: Global, row: &Row<'_>, setting: &Setting) -> Result<OneNet, Memory> {
+    let link = if row.field(b"link").is_some() {
+        Some(LinkPlan {
+            bytes: front(alloc, row, b"link", setting)?,
+            by_bytes: setting.by_bytes,
+            takes: setting.faulty.calls(alloc, row, Place::Link)?,
+            puts: setting.faulty.calls(alloc, row, Place::Sent)?,
+        })
+    } else {
+        None
+    };
+    let fails = setting.faulty.calls(alloc, row, Place::Net)?;
+    Ok(OneNet::new(alloc, link, fails))
 }

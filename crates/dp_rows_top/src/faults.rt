@@ -1,6 +1,6 @@
-//! Which call of which object fails.
+//! Which calls of which object fail.
 
-use dp_rows::Memory;
+use dp_rows::{Field, Memory, Row};
 use std::alloc::Global;
 
 /// An object of a call: its input and its outputs, the source and the sink of its link, and its network.
@@ -44,6 +44,27 @@ impl Place {
         }
         None
     }
+
+    /// The field of a row with the number of a call of it that fails.
+    fn field(self) -> &'static [u8] {
+        match self {
+            Place::Input => b"input_fails".as_slice(),
+            Place::Out => b"out_fails".as_slice(),
+            Place::Err => b"err_fails".as_slice(),
+            Place::Link => b"link_fails".as_slice(),
+            Place::Sent => b"sent_fails".as_slice(),
+            Place::Net => b"net_fails".as_slice(),
+        }
+    }
+}
+
+/// A list with the number that a field of a row gives, or an empty one.
+pub(crate) fn numbers(alloc: Global, row: &Row<'_>, name: &[u8]) -> Result<Vec<u64>, Memory> {
+    let mut numbers = Vec::new(alloc);
+    if let Some(number) = row.field(name).and_then(Field::number) {
+        numbers.push(number)?;
+    }
+    Ok(numbers)
 }
 
 impl Faulty {
@@ -55,9 +76,14 @@ impl Faulty {
         }
     }
 
-    /// The numbers of the calls of an object that fail.
-    pub(crate) fn calls(&self, alloc: Global, place: Place) -> Result<Vec<u64>, Memory> {
-        let mut calls = Vec::new(alloc);
+    /// The numbers of the calls of an object that fail: that which the row gives, and this one.
+    pub(crate) fn calls(
+        self,
+        alloc: Global,
+        row: &Row<'_>,
+        place: Place,
+    ) -> Result<Vec<u64>, Memory> {
+        let mut calls = numbers(alloc, row, place.field())?;
         if self.place == place && self.number != 0 {
             calls.push(self.number)?;
         }

@@ -1,6 +1,6 @@
 //! The tables of a row: its call is made for each number, and what comes of each is compared.
 
-use crate::calls::{Wanted, call_top, compare, compare_count, wanted_of};
+use crate::calls::{Wanted, call_top, compare, wanted_of};
 use crate::faults::{Faulty, Place};
 use crate::fronts::{written_by, written_to};
 use crate::objects::Setting;
@@ -11,22 +11,6 @@ use std::thread::Threads;
 
 /// The most calls of a table.
 const MOST_CALLS: u64 = 100_000;
-
-/// The names of the fields that a row has.
-const NAMES: [&[u8]; 12] = [
-    b"words",
-    b"file",
-    b"in",
-    b"link",
-    b"out",
-    b"err",
-    b"sent",
-    b"status",
-    b"any",
-    b"counts",
-    b"each_end",
-    b"each_fault",
-];
 
 /// The row of a table: what its call reads, and whether it is a script's.
 #[derive(Drop)]
@@ -266,33 +250,23 @@ fn put_calls(
     writeln!(counts, ": {calls} calls")
 }
 
-/// Makes the call of a row as it stands, and those of its tables. Tells what differs, and puts a line for each table
-/// with how many calls were made, or failed.
-pub(crate) fn differences_of<R: Wait + Sync + Threads + Send>(
+/// Makes the calls of the tables of a row, and tells what differs. Puts the row's title, and a line for each table with
+/// how many calls were made, or failed.
+pub(crate) fn put_tables<R: Wait + Sync + Threads + Send>(
     rt: &R,
     alloc: Global,
     row: &Row<'_>,
     counts: &mut String,
-) -> Result<Differences, Memory> {
-    let mut differences = Differences::new(alloc);
-    let wanted = wanted_of(alloc, row)?;
-    let setting = Setting {
-        length: usize::MAX,
-        by_bytes: false,
-        faulty: Faulty::none(),
-    };
-    let found = call_top(rt, alloc, row, &wanted, &setting)?;
-    compare(alloc, row, &wanted, &found, &mut differences)?;
-    compare_count(alloc, row, &found, &mut differences)?;
+    differences: &mut Differences,
+) -> Result<(), Memory> {
+    let title = String::from_utf8_lossy(alloc, row.title)?;
+    writeln!(counts, "  {title}")?;
     let table = Table::of(alloc, row)?;
     for field in row.fields.iter() {
-        if !NAMES.contains(&field.name) {
-            differences.mistake("unknown field", field.name)?;
-        }
-        let calls = calls_of_field(rt, alloc, &table, field, &mut differences)?;
+        let calls = calls_of_field(rt, alloc, &table, field, differences)?;
         if calls > 0 {
             put_calls(alloc, field, calls, counts)?;
         }
     }
-    Ok(differences)
+    Ok(())
 }

@@ -1,7 +1,6 @@
 //! A link in memory that is made when it is asked for, and of which a net keeps what was put on it.
 ghost use Rattle.std.specs.Prelude.{◌≡◌, ◌↔◌, ◌+◌, ◌<◌, [], IfOk, IsTrue};
 
-use crate::faults::{Faulty, Place};
 use dp_outside::{ByteSink, ByteSource};
 use dp_rows::Memory;
 use std::alloc::Global;
@@ -9,12 +8,13 @@ use std::alloc::Global;
 /// How many bytes the other end of a link takes.
 const ROOM: usize = 1 << 20;
 
-/// What the other end of a link sends, whether byte by byte, and which call of the link fails.
+/// What the other end of a link sends, whether byte by byte, and which takes and puts of the link fail.
 #[derive(Drop)]
 pub(crate) struct LinkPlan {
     pub(crate) bytes: Vec<u8>,
     pub(crate) by_bytes: bool,
-    pub(crate) faulty: Faulty,
+    pub(crate) takes: Vec<u64>,
+    pub(crate) puts: Vec<u64>,
 }
 
 /// The sizes of the pieces in which so many bytes come: of one byte each, or as they are asked for.
@@ -35,11 +35,12 @@ pub(crate) fn link_of(alloc: Global, plan: LinkPlan) -> Result<(ByteSource, Byte
     let LinkPlan {
         bytes,
         by_bytes,
-        faulty,
+        takes,
+        puts,
     } = plan;
     let cuts = cuts_of(alloc, bytes.len(), by_bytes)?;
-    let source = ByteSource::new(bytes, cuts, faulty.calls(alloc, Place::Link)?)?;
-    let sink = ByteSink::new(alloc, ROOM, faulty.calls(alloc, Place::Sent)?)?;
+    let source = ByteSource::new(bytes, cuts, takes)?;
+    let sink = ByteSink::new(alloc, ROOM, puts)?;
     Ok((source, sink))
 }
 
