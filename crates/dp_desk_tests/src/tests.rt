@@ -27,7 +27,8 @@ fn two_threads(rt: HostRuntime) -> Result<(), Fail> {
 /// Whether the three calls were refused, each for its own reason.
 fn are_refused(answers: &Answers) -> bool {
     let is_taken = match &answers.taken {
-        Err(Refusal::Taken { host, port }) => host.as_slice() == b"10.0.0.1".as_slice() && *port == 9000,
+        Err(Refusal::Taken { host, port }) => host.as_slice() == b"10.0.0.1".as_slice()
+            && *port == 9000,
         _ => false,
     };
     is_taken
