@@ -1,12 +1,13 @@
 //! A stream split into commands.
 
-ghost use Rattle.std.specs.Prelude.{◌≡◌, ◌↔◌, ◌+◌, ◌≤◌, [], ◌∷◌, ◌++◌, List, ℕ, min, length, vec_len, take, drop};
+ghost use Rattle.std.specs.Prelude.{◌≡◌, ◌↔◌, ◌+◌, ◌≤◌, [], ◌∷◌, ◌++◌, List, ℕ, min, length, take, drop};
 ghost use Rattle.std.specs.Prelude.{IsErr, IfOk, IfErr, IfSome, OnOk, OnErr};
 ghost use Rattle.dp_wire.specs.Frames.{command_frame, command_limit, BeginsCommand, IsPartialCommand, BeginsNoCommand};
 ghost use Rattle.dp_wire.specs.Frames.{commands_in, FirstNul};
 ghost use Rattle.dp_wire.specs.Received.{last_place};
 
 use crate::WireError;
+use crate::held::Held;
 use crate::nuls::first_nul;
 use dp_value::Memory;
 use std::alloc::Global;
@@ -27,9 +28,8 @@ const TOO_LONG: WireError = WireError::TooLong {
 /// DBGp 1.0, "Message Packets". A byte is looked at once, however the stream is cut.
 #[derive(Debug, Drop)]
 pub struct Commands {
-    /// What was fed; the bytes before `from` were dropped.
-    bytes: Vec<u8>,
-    from: usize,
+    /// What was fed and not dropped.
+    bytes: Held,
     /// The length of the first text that is held with its NUL.
     first: Option<usize>,
     /// How many bytes of the stream were dropped, or the largest number where they are more.
@@ -37,15 +37,14 @@ pub struct Commands {
 }
 
 impl Model for Commands {
-    ghost use Rattle.std.specs.Prelude.{◌≤◌, length, drop};
     ghost use Rattle.dp_wire.specs.Frames.{FirstNul};
     ghost use Rattle.dp_wire.specs.Received.{Received};
 
     ghost Value = { Received };
 
-    ghost view = { λ c. record { held = drop c.from c.bytes.items; dropped = c.dropped } };
+    ghost view = { λ c. record { held = c.bytes; dropped = c.dropped } };
 
-    ghost invariant = { λ c. (c.from ≤ length c.bytes.items) × FirstNul (drop c.from c.bytes.items) c.first };
+    ghost invariant = { λ c. FirstNul c.bytes c.first };
 }
 
 impl Commands {
@@ -55,8 +54,7 @@ impl Commands {
         ensures dropped { result.dropped ≡ 0 }
     {
         Commands {
-            bytes: Vec::new(alloc),
-            from: 0,
+            bytes: Held::new(alloc),
             first: None,
             dropped: 0,
         }
@@ -66,7 +64,7 @@ impl Commands {
     pub fn bytes(&self) -> &[u8]
         ensures { result.now ≡ self.now.held }
     {
-        &self.bytes[self.from..]
+        self.bytes.as_slice()
     }
 
     /// How many bytes of the stream were dropped: the place of the first byte held. Stays at 2^64 - 1. Takes no memory.
@@ -82,21 +80,10 @@ impl Commands {
         ensures dropped { self.new.dropped ≡ self.old.dropped }
         ensures err { OnErr result (self.new ≡ self.old) }
     {
-        self.forget_dropped();
-        let first = first_with(self.first, &self.bytes[self.from..], piece);
-        self.bytes.extend_from_slice(piece)?;
+        let first = first_with(self.first, self.bytes(), piece);
+        self.bytes.append(piece)?;
         self.first = first;
         Ok(())
-    }
-
-    /// Gives up the bytes that were dropped, where they are at least half: this costs no more than they did.
-    fn forget_dropped(&mut self)
-        ensures { self.new ≡ self.old }
-    {
-        if self.bytes.len() - self.from <= self.from {
-            drop_first(&mut self.bytes, self.from);
-            self.from = 0;
-        }
     }
 
     /// The range of the first command among the bytes held, without its NUL. `None` where more has to come.
@@ -123,7 +110,7 @@ impl Commands {
         match self.first {
             Some(length) if length <= COMMAND_LIMIT => Ok(Some(0..length)),
             Some(_) => Err(TOO_LONG),
-            None if self.bytes.len() - self.from <= COMMAND_LIMIT => Ok(None),
+            None if self.bytes().len() <= COMMAND_LIMIT => Ok(None),
             None => Err(TOO_LONG),
         }
     }
@@ -137,21 +124,14 @@ impl Commands {
     {
         match self.first {
             Some(length) => {
-                self.from += length + 1;
-                self.first = first_nul(&self.bytes[self.from..]);
+                let next = first_nul(&self.bytes()[length + 1..]);
+                self.bytes.advance(length + 1);
+                self.first = next;
                 self.dropped = self.dropped.saturating_add(length as u64 + 1);
             }
             None => unreachable!(),
         }
     }
-}
-
-/// Drops so many bytes from the front.
-pub(crate) fn drop_first(bytes: &mut Vec<u8>, count: usize)
-    requires { count ≤ vec_len bytes.old }
-    ensures { bytes.new.items ≡ drop count bytes.old.items }
-{
-    bytes.drain(..count);
 }
 
 /// The place of the first NUL once the piece follows what is held.

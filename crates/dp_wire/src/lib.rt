@@ -4,6 +4,7 @@
 mod command;
 mod commands;
 mod errors;
+mod held;
 mod laws;
 mod length;
 mod nuls;

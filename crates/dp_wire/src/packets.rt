@@ -8,7 +8,7 @@ ghost use Rattle.dp_wire.specs.Frames.{packets_in};
 ghost use Rattle.dp_wire.specs.Received.{IsCause, place_of, last_place};
 
 use crate::WireError;
-use crate::commands::drop_first;
+use crate::held::Held;
 use crate::length::{Length, read_length};
 use dp_value::Memory;
 use std::alloc::Global;
@@ -20,22 +20,18 @@ use std::ops::Range;
 /// DBGp 1.0, "Message Packets". `next` looks at ten bytes at most, however many are held.
 #[derive(Debug, Drop)]
 pub struct Packets {
-    /// What was fed; the bytes before `from` were dropped.
-    bytes: Vec<u8>,
-    from: usize,
+    /// What was fed and not dropped.
+    bytes: Held,
     /// How many bytes of the stream were dropped, or the largest number where they are more.
     dropped: u64,
 }
 
 impl Model for Packets {
-    ghost use Rattle.std.specs.Prelude.{◌≤◌, length, drop};
     ghost use Rattle.dp_wire.specs.Received.{Received};
 
     ghost Value = { Received };
 
-    ghost view = { λ p. record { held = drop p.from p.bytes.items; dropped = p.dropped } };
-
-    ghost invariant = { λ p. p.from ≤ length p.bytes.items };
+    ghost view = { λ p. record { held = p.bytes; dropped = p.dropped } };
 }
 
 impl Packets {
@@ -45,8 +41,7 @@ impl Packets {
         ensures dropped { result.dropped ≡ 0 }
     {
         Packets {
-            bytes: Vec::new(alloc),
-            from: 0,
+            bytes: Held::new(alloc),
             dropped: 0,
         }
     }
@@ -55,7 +50,7 @@ impl Packets {
     pub fn bytes(&self) -> &[u8]
         ensures { result.now ≡ self.now.held }
     {
-        &self.bytes[self.from..]
+        self.bytes.as_slice()
     }
 
     /// How many bytes of the stream were dropped: the place of the first byte held. Stays at 2^64 - 1. Takes no memory.
@@ -71,19 +66,8 @@ impl Packets {
         ensures dropped { self.new.dropped ≡ self.old.dropped }
         ensures err { OnErr result (self.new ≡ self.old) }
     {
-        self.forget_dropped();
-        self.bytes.extend_from_slice(piece)?;
+        self.bytes.append(piece)?;
         Ok(())
-    }
-
-    /// Gives up the bytes that were dropped, where they are at least half: this costs no more than they did.
-    fn forget_dropped(&mut self)
-        ensures { self.new ≡ self.old }
-    {
-        if self.bytes.len() - self.from <= self.from {
-            drop_first(&mut self.bytes, self.from);
-            self.from = 0;
-        }
     }
 
     /// The range of the first packet's text among the bytes held. `None` where more has to come.
@@ -152,8 +136,8 @@ impl Packets {
     {
         match self.next() {
             Ok(Some(range)) => {
-                let count = range.end + 1;
-                self.from += count;
+                let count = self.bytes()[..=range.end].len();
+                self.bytes.advance(count);
                 self.dropped = self.dropped.saturating_add(count as u64);
             }
             Ok(None) => unreachable!(),

@@ -1,15 +1,20 @@
-use Rattle.std.proofs.Common.{◌+◌, Ok, drop, min, refl, sym, ap, ◌∙◌}
-use Rattle.std.proofs.lemmas.List.{drop-drop}
+use Rattle.std.proofs.Common.{◌≡◌, ◌+◌, ◌<◌, ℕ, Ok, List, length, take, drop, min, refl, sym, ap, ◌∙◌, arith}
+use Rattle.std.proofs.lemmas.List.{length-take-le}
 use Rattle.dp_wire.specs.Received.{Received, last_place}
 use Rattle.dp_wire.proofs.LengthLaws.{begins_partial, begins_refused, dropped_is}
 use Rattle.dp_wire.proofs.packets.Packets.drop_front.Goals as goal
+
+-- how many bytes a packet has with its framing
+count_is : (bytes now : List ℕ) (end : ℕ) → bytes ≡ now → end < length now → length (take (end + 1) bytes) ≡ end + 1
+count_is bytes now end same within = length-take-le (end + 1) bytes (omega (arith, ap length same, within))
 
 pub returns-clause-held : goal.returns-clause-held
 returns-clause-held c = λ text rest begins.
     let end = c.in-Ok-Some.range.end in
     let within = rw c.in-Ok-Some.field-0-is at c.in-Ok-Some.ensures.within in
     let whole = rw c.in-Ok-Some.field-0-is at c.in-Ok-Some.ensures.whole in
-    sym (drop-drop (end + 1) c.self.inside.from c.self.inside.bytes.items)
+    c.advance.ensures
+    ∙ ap (λ n. drop n c.self.inside.bytes) (count_is _ _ end c.bytes.ensures within.1)
     ∙ ap (λ (r : Received). drop (end + 1) r.held) c.self.view_is
     ∙ (dropped_is c.args.self.now.held _ text rest end within.1 whole begins).0
 
@@ -19,7 +24,9 @@ returns-clause-dropped c = λ text rest begins.
     let within = rw c.in-Ok-Some.field-0-is at c.in-Ok-Some.ensures.within in
     let whole = rw c.in-Ok-Some.field-0-is at c.in-Ok-Some.ensures.whole in
     let long = (dropped_is c.args.self.now.held _ text rest end within.1 whole begins).1 in
-    c.saturating_add-self-inside.ensures ∙ (λ i. min ((c.self.view_is i).dropped + sym long i) last_place)
+    let count = count_is _ _ end c.bytes.ensures within.1 in
+    c.saturating_add-self-inside.ensures
+    ∙ (λ i. min ((c.self.view_is i).dropped + (count ∙ sym long) i) last_place)
 
 pub unreachable-requires : goal.unreachable-requires
 unreachable-requires c =
