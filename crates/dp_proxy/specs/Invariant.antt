@@ -1,6 +1,6 @@
 -- How what a proxy keeps stands for the events that came. A reader of a step's contract takes
 -- `Represents` for a name that `new` gives and `step` carries on; what it says is for the proofs.
-use Rattle.std.specs.Prelude.{◌≡◌, ℕ, true, List, Option, Some, None, Result, Err, nat_eq}
+use Rattle.std.specs.Prelude.{◌≡◌, ℕ, Bool, true, false, List, Option, Some, None, Result, Err, nat_eq}
 use Rattle.std.specs.Prelude.{Contains}
 use Rattle.std.specs.Map.{lookup}
 use Rattle.dp_registry.specs.declared.entry.Entry.{Entry}
@@ -22,10 +22,12 @@ use Rattle.dp_proxy.specs.Pasts.{Link, New, Asking, Settled, Joined, Ended, Refu
 use Rattle.dp_lanes.specs.Places.{Follows}
 use Rattle.dp_proxy.specs.Steps.{counted}
 
--- the registry's journal, and what is kept of each link that was made
+-- the registry's journal, what is kept of each link that was made, and whether memory has run out:
+-- then each event is answered so
 pub record Keeps : Type 0 where
   pub journal : List Entry
   pub links : List (ℕ × Kept)
+  pub failed : Bool
 
 abbrev pub kept_at : List (ℕ × Kept) → ℕ → Option Kept
 kept_at links number = lookup (nat_eq number) links
@@ -58,6 +60,11 @@ pub record Represents (keeps : Keeps) (events : List Event) : Type 0 where
 abbrev pub RepresentsAfter : Keeps → List Event → Event → Result Effect ProxyError → Type 0
 RepresentsAfter keeps events event (Err Memory) = Unit {0}
 RepresentsAfter keeps events event answer = Represents keeps (counted events event answer)
+
+-- a step answers that it is out of memory
+abbrev pub is_memory : Result Effect ProxyError → Bool
+is_memory (Err Memory) = true
+is_memory answer = false
 
 -- ---- sound without a look at the events
 
