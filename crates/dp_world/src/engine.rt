@@ -97,7 +97,7 @@ pub(crate) fn begin<A: Engines>(
 
 /// It takes whole commands, each with its NUL, and answers them, up to one that ends the session.
 ///
-/// Once memory ran out it has failed for good.
+/// Once memory ran out nothing is said of it.
 pub(crate) fn take_in<A: Engines>(
     engine: &mut Engine<A::Session, A::End>,
     alloc: Global,

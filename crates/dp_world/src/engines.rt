@@ -32,7 +32,7 @@ pub trait Engines {
         ensures text { IfOk result (λ begun. begun.1 ≡ (known self.now).init key.now) }
         ensures is_text { IfOk result (λ begun. IsPacketText begun.1) };
 
-    /// Answers one command, without its NUL. Once memory ran out the session has failed for good.
+    /// Answers one command, without its NUL. Once memory ran out nothing is said of the session.
     fn answer(
         &self,
         session: &mut Self::Session,

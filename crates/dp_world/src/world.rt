@@ -35,7 +35,7 @@ impl<S: Drop, E: Drop> World<S, E> {
     }
 }
 
-/// It takes one event. Once memory ran out it has failed for good.
+/// It takes one event. Once memory ran out nothing is said of it.
 fn take<A: Engines>(
     world: &mut World<A::Session, A::End>,
     alloc: Global,
