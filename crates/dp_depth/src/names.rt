@@ -97,8 +97,8 @@ impl<'p> Model for DeepNames<'p> {
 }
 
 impl<'p> DeepNames<'p> {
-    /// No name yet.
-    pub(crate) fn new(alloc: Global) -> DeepNames<'p>
+    /// No name yet. Takes no memory.
+    pub fn new(alloc: Global) -> DeepNames<'p>
         ensures { result ≡ [] }
     {
         DeepNames {
@@ -118,7 +118,7 @@ impl<'p> DeepNames<'p> {
 
     /// Puts the name of a function with them.
     #[tactic(auto, unfolding(crate::specs::Depth::is_named))]
-    pub(crate) fn add(&mut self, function: &'p Function) -> Result<(), Memory>
+    pub fn add(&mut self, function: &'p Function) -> Result<(), Memory>
         ensures { OnOk result ((name : List ℕ) → is_named self.new name
             ≡ (str_eq_ignore_ascii_case function.now.name name || is_named self.old name)) }
     {
@@ -128,9 +128,9 @@ impl<'p> DeepNames<'p> {
         Ok(())
     }
 
-    /// Whether these are the names of the other.
+    /// Whether these are the names of the other. Takes no memory.
     #[tactic(auto, unfolding(crate::specs::Depth::is_named))]
-    pub(crate) fn is_same(&self, other: &DeepNames<'p>) -> bool
+    pub fn is_same(&self, other: &DeepNames<'p>) -> bool
         ensures { Decides result ((name : List ℕ) → is_named self.now name ≡ is_named other.now name) }
     {
         self.names == other.names

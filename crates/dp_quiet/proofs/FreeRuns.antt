@@ -1,82 +1,70 @@
--- Each moment of a statement that is quiet stands at a place, on a line that is not watched.
-use Rattle.std.proofs.Common.{◌≡◌, ℕ, zero, suc, ◌-◌, Bool, true, false, ◌&&◌, if◌then◌else◌, List, [], ◌∷◌, map, Option, Some, None, Result, Ok, Err, refl, sym, ap, ◌∙◌, subst}
+-- No moment of a statement that is quiet is watched.
+use Rattle.std.proofs.Common.{◌≡◌, ℕ, zero, suc, ◌-◌, Bool, true, ◌&&◌, List, [], ◌∷◌, map, Option, Some, None, refl, sym, ap, ◌∙◌, subst}
 use Rattle.std.specs.Prelude.{nat_le}
 use Rattle.std.specs.List.{list_all}
 use Rattle.std.specs.Option.{option_map_or}
 use Rattle.dp_value.specs.declared.key.Key.{Key}
 use Rattle.dp_value.specs.declared.value.Value.{Value}
+use Rattle.dp_value.specs.declared.value.Value.TheVariants as value
 use Rattle.dp_value.specs.Data.{Data}
-use Rattle.dp_state.specs.declared.moments.FatalKind.{FatalKind}
 use Rattle.dp_state.specs.declared.state.State.{State}
 use Rattle.dp_tree.specs.Purity.{all_pure}
 use Rattle.dp_tree.specs.declared.tree.Arm.{Arm, map-Arm, roll-Arm}
 use Rattle.dp_tree.specs.declared.tree.Binding.{Binding}
 use Rattle.dp_tree.specs.declared.tree.Expression.{Expression}
+use Rattle.dp_tree.specs.declared.tree.Place.{Place}
 use Rattle.dp_tree.specs.declared.tree.Statement.{Statement, map-Statement, roll-Statement, ind-Statement}
 use Rattle.dp_tree.specs.declared.tree.StatementKind.{StatementKind, map-StatementKind, roll-StatementKind}
 use Rattle.dp_tree.specs.declared.tree.StatementKind.TheFolds.{fold-roll-Statement, fold-roll-StatementKind, fold-roll-Arm}
 use Rattle.dp_tree.specs.declared.tree.StatementKind.TheOpen.{Statement-F, StatementKind-F, Arm-F}
 use Rattle.dp_actions.specs.declared.signal.Signal.{Signal}
 use Rattle.dp_actions.specs.declared.signal.Signal.TheVariants.{Next, Break, Continue, Return}
-use Rattle.dp_actions.specs.Expressions.{expression_run, evaluation, evaluations}
+use Rattle.dp_actions.specs.Effects.{exit_run, exit_with, status_of}
+use Rattle.dp_actions.specs.Expressions.{expression_run, evaluation, evaluations, place_run}
+use Rattle.dp_actions.proofs.Layers.{run-place}
+use Rattle.dp_actions.specs.Places.{PlaceRun, unset_run}
 use Rattle.dp_actions.specs.Loops.{after_body, last_holds, turns, do_turns, bind_key, bind, each_run, entries}
-use Rattle.dp_actions.specs.Run.{Run, Done, Over, At, and_then, taken}
+use Rattle.dp_actions.specs.Run.{Run, Done}
 use Rattle.dp_actions.specs.Setting.{Setting, Part}
 use Rattle.dp_actions.specs.Values.{holds}
-use Rattle.dp_meaning.specs.Momentless.{is_momentless}
-use Rattle.dp_actions.specs.Statements.{KindRun, ArmRun, go_on, sequence, echoes, arms_run, return_run, statement_run, arm_run}
+use Rattle.dp_actions.specs.Statements.{KindRun, ArmRun, go_on, sequence, echoes, arms_run, return_run, statement_run, arm_run, body_run, end_run}
 use Rattle.dp_actions.specs.Statements as runs_of
 use Rattle.dp_actions.specs.inner.StatementParts.{kind_run}
 use Rattle.dp_meaning.proofs.Always.{Each}
 use Rattle.dp_meaning.proofs.PureLaws.{both-true}
-use Rattle.dp_meaning.proofs.QuietLaws.{IsQuiet, Given, Finished, quiet-momentless, quiet-all}
-use Rattle.dp_quiet.specs.Quiet.{is_free, is_quiet}
+use Rattle.dp_quiet.specs.Quiet.{is_free, place_is_still, statement_is_quiet}
 use Rattle.dp_quiet.specs.Quiet as quiet
 use Rattle.dp_quiet.specs.inner.Parts.{kind_is_quiet, arm_is_quiet}
+use Rattle.dp_quiet.proofs.FreeExpressions.{free-if, free-taken, free-then}
 
-module _ (lines : List ℕ) where
+-- where an expression that is still has no moment that is watched, by what is gone by here, no statement that is quiet
+-- has one
+module _ (lines : List ℕ) (calls : Bool) (still : Expression → Bool) (setting : Setting)
+    (keeps : (e : Expression) → still e ≡ true → (s : State) → quiet.OnFree lines calls (evaluation e setting s)) where
   abbrev OnFree : {A : Type 0} → Run A → Type 0
-  OnFree r = quiet.OnFree lines r
+  OnFree r = quiet.OnFree lines calls r
 
   abbrev pub FreePart : {A : Type 0} → Part A → Type 0
-  FreePart part = (setting : Setting) (s : State) → OnFree (part setting s)
+  FreePart part = (s : State) → OnFree (part setting s)
 
   abbrev FreeStep : {A : Type 0} → (State → Run A) → Type 0
   FreeStep f = (s : State) → OnFree (f s)
 
-  free-then : {A B : Type 0} (r : Run A) (next : A → State → Run B) → OnFree r
-      → ((a : A) (t : State) → OnFree (next a t)) → OnFree (and_then r next)
-  unfolding and_then
-  free-then (Done a s) next h k = k a s
-  free-then (Over o s) next h k = tt
-  free-then (At kind line s go) next h k = (h.0, h.1, λ t. free-then (go t) next (h.2 t) k)
-
-  free-if : {A : Type 0} (b : Bool) (x y : Run A) → OnFree x → OnFree y → OnFree (if b then x else y)
-  free-if true x y h k = h
-  free-if false x y h k = k
-
-  free-at-once : {A : Type 0} (r : Run A) → IsQuiet r → OnFree r
-  free-at-once r (Given a t e) = subst OnFree (sym e) tt
-  free-at-once r (Finished o t e) = subst OnFree (sym e) tt
-
-  free-taken : (r : Result State FatalKind) (s : State) → OnFree (taken r s)
-  free-taken (Ok t) s = tt
-  free-taken (Err kind) s = tt
-
-  keeps : (e : Expression) → is_momentless e ≡ true → FreePart (evaluation e)
-  keeps e h setting s = free-at-once _ (quiet-momentless e h setting s)
-
-  keeps-all : (es : List Expression) → list_all is_momentless es ≡ true → FreePart (evaluations es)
-  keeps-all es h setting s = free-at-once _ (quiet-all es h setting s)
+  keeps-all : (es : List Expression) → list_all still es ≡ true → FreePart (evaluations es)
+  keeps-all [] h s = tt
+  keeps-all (e ∷ es) h s =
+      let both = both-true (still e) (list_all still es) h in
+      free-then lines calls _ _ (keeps e both.0 s)
+      (λ v t. free-then lines calls _ _ (keeps-all es both.1 t) (λ values u. tt))
 
   -- ---- loops
 
   free-after_body : (next : State → Run Signal) → FreeStep next → (g : Signal) → FreeStep (after_body g next)
   free-after_body next keep Next s = keep s
   free-after_body next keep (Break loops) s =
-      free-if (nat_le loops 1) (Done Next s) (Done (Break (loops - 1)) s) tt tt
+      free-if lines calls (nat_le loops 1) (Done Next s) (Done (Break (loops - 1)) s) tt tt
   free-after_body next keep (Continue loop) s =
-      free-if (nat_le loop 1) (next s) (Done (Continue (loop - 1)) s) (keep s) tt
+      free-if lines calls (nat_le loop 1) (next s) (Done (Continue (loop - 1)) s) (keep s) tt
   free-after_body next keep (Return v) s = tt
 
   free-turns : (k line : ℕ) (test next : State → Run (List Value)) (body : State → Run Signal)
@@ -84,13 +72,12 @@ module _ (lines : List ℕ) where
       → FreeStep (turns k line test next body)
   free-turns zero line test next body free tests nexts bodies s = tt
   free-turns (suc k) line test next body free tests nexts bodies s = (
-    refl,
     free,
     λ t.
-        free-then _ _ (tests t) (λ values u.
-        free-if (last_holds values) _ (Done Next u)
-        (free-then _ _ (bodies u) (free-after_body _ (λ w.
-        free-then _ _ (nexts w) (λ _. free-turns k line test next body free tests nexts bodies))))
+        free-then lines calls _ _ (tests t) (λ values u.
+        free-if lines calls (last_holds values) _ (Done Next u)
+        (free-then lines calls _ _ (bodies u) (free-after_body _ (λ w.
+        free-then lines calls _ _ (nexts w) (λ _. free-turns k line test next body free tests nexts bodies))))
         tt),
   )
 
@@ -98,31 +85,30 @@ module _ (lines : List ℕ) where
       → FreeStep test → FreeStep body → FreeStep (do_turns k line test body)
   free-do_turns zero line test body free tests bodies s = tt
   free-do_turns (suc k) line test body free tests bodies s =
-      free-then _ _ (bodies s) (free-after_body _ (λ u. (
-        refl,
+      free-then lines calls _ _ (bodies s) (free-after_body _ (λ u. (
         free,
         λ v.
-            free-then _ _ (tests v) (λ tested w.
-            free-if (holds tested) (do_turns k line test body w) (Done Next w)
+            free-then lines calls _ _ (tests v) (λ tested w.
+            free-if lines calls (holds tested) (do_turns k line test body w) (Done Next w)
             (free-do_turns k line test body free tests bodies w) tt),
       )))
 
   free-bind_key : (name : Option (List ℕ)) (key : Key) → FreeStep (bind_key name key)
   free-bind_key None key s = tt
-  free-bind_key (Some name) key s = free-taken _ s
+  free-bind_key (Some name) key s = free-taken lines calls _ s
 
   free-bind : (binding : Binding) (entry : Key × Data) → FreeStep (bind binding entry)
-  free-bind binding entry s = free-then _ _ (free-taken _ s) (λ _. free-bind_key binding.key entry.0)
+  free-bind binding entry s = free-then lines calls _ _ (free-taken lines calls _ s)
+      (λ _. free-bind_key binding.key entry.0)
 
   free-each : (line : ℕ) (binding : Binding) (all : List (Key × Data)) (body : State → Run Signal)
       → is_free lines line ≡ true → FreeStep body → FreeStep (each_run line binding all body)
   free-each line binding [] body free bodies s = tt
   free-each line binding (entry ∷ more) body free bodies s = (
-    refl,
     free,
     λ t.
-        free-then _ _ (free-bind binding entry t) (λ _ u.
-        free-then _ _ (bodies u) (free-after_body _ (free-each line binding more body free bodies))),
+        free-then lines calls _ _ (free-bind binding entry t) (λ _ u.
+        free-then lines calls _ _ (bodies u) (free-after_body _ (free-each line binding more body free bodies))),
   )
 
   -- ---- statements
@@ -134,35 +120,59 @@ module _ (lines : List ℕ) where
   free-go_on next keep (Return v) s = tt
 
   free-sequence : (all : List (Part Signal)) → Each FreePart all → FreePart (sequence all)
-  free-sequence [] each setting s = tt
-  free-sequence (first ∷ rest) each setting s =
-      free-then _ _ (each.0 setting s) (free-go_on _ (free-sequence rest each.1 setting))
+  free-sequence [] each s = tt
+  free-sequence (first ∷ rest) each s =
+      free-then lines calls _ _ (each.0 s) (free-go_on _ (free-sequence rest each.1))
 
-  free-echoes : (es : List Expression) → list_all is_momentless es ≡ true → FreePart (echoes (map expression_run es))
-  free-echoes [] h setting s = tt
-  free-echoes (e ∷ es) h setting s =
-      let both = both-true (is_momentless e) (list_all is_momentless es) h in
-      free-then _ _ (keeps e both.0 setting s) (λ v t.
-      free-then _ _ (free-taken _ t) (λ _. free-echoes es both.1 setting))
+  free-echoes : (es : List Expression) → list_all still es ≡ true → FreePart (echoes (map expression_run es))
+  free-echoes [] h s = tt
+  free-echoes (e ∷ es) h s =
+      let both = both-true (still e) (list_all still es) h in
+      free-then lines calls _ _ (keeps e both.0 s) (λ v t.
+      free-then lines calls _ _ (free-taken lines calls _ t) (λ _. free-echoes es both.1))
 
   abbrev FreeArm : ArmRun → Type 0
   FreeArm arm = (otherwise : Part Signal) → FreePart otherwise → FreePart (arm otherwise)
 
   free-otherwise : (o : Option (Part Signal)) → ((part : Part Signal) → o ≡ Some part → FreePart part)
       → FreePart (arms_run [] o)
-  free-otherwise None keep setting s = tt
-  free-otherwise (Some part) keep setting s = keep part refl setting s
+  free-otherwise None keep s = tt
+  free-otherwise (Some part) keep s = keep part refl s
 
   free-arms : (arms : List ArmRun) (o : Option (Part Signal)) → Each FreeArm arms
       → ((part : Part Signal) → o ≡ Some part → FreePart part) → FreePart (arms_run arms o)
-  free-arms [] o each keep setting s = free-otherwise o keep setting s
-  free-arms (arm ∷ arms) o each keep setting s =
-      each.0 (arms_run arms o) (free-arms arms o each.1 keep) setting s
+  free-arms [] o each keep s = free-otherwise o keep s
+  free-arms (arm ∷ arms) o each keep s =
+      each.0 (arms_run arms o) (free-arms arms o each.1 keep) s
 
-  free-return : (value : Option Expression) → option_map_or is_momentless value true ≡ true
+  free-return : (value : Option Expression) → option_map_or still value true ≡ true
       → FreePart (return_run value)
-  free-return None h setting s = tt
-  free-return (Some e) h setting s = free-then _ _ (keeps e h setting s) (λ v u. tt)
+  free-return None h s = tt
+  free-return (Some e) h s = free-then lines calls _ _ (keeps e h s) (λ v u. tt)
+
+  free-unset : (places : List Place) → list_all (place_is_still still) places ≡ true
+      → FreePart (unset_run (map place_run places))
+  free-unset [] h s = tt
+  free-unset (place ∷ places) h s =
+      let both = both-true (list_all still place.indices) (list_all (place_is_still still) places) h in
+      subst (λ (run : PlaceRun). OnFree (unset_run (run ∷ map place_run places) setting s)) (sym (run-place place))
+      (free-then lines calls _ _ (keeps-all place.indices both.0 s) (λ indices t.
+      free-then lines calls _ _ (free-taken lines calls _ t) (λ _. free-unset places both.1)))
+
+  free-exit_with : (status : Option ℕ) (s : State) → OnFree (exit_with status s)
+  free-exit_with None s = tt
+  free-exit_with (Some status) s = tt
+
+  free-exit_run : (v : Value) (s : State) → OnFree (exit_run v s)
+  free-exit_run value.Null s = tt
+  free-exit_run (value.Bool b) s = tt
+  free-exit_run (value.Int n) s = free-exit_with (status_of n) s
+  free-exit_run (value.Text bytes) s = free-then lines calls _ _ (free-taken lines calls _ s) (λ _ t. tt)
+  free-exit_run (value.Array t) s = tt
+
+  free-exit : (value : Option Expression) → option_map_or still value true ≡ true → FreePart (end_run value)
+  free-exit None h s = tt
+  free-exit (Some e) h s = free-then lines calls _ _ (keeps e h s) free-exit_run
 
   -- ---- each layer, where the parts of a tree are so
 
@@ -175,13 +185,13 @@ module _ (lines : List ℕ) where
       (x.1 h.0, each-free test run Q xs h.1)
 
   abbrev Good : Statement → Type 0
-  Good statement = is_quiet lines statement ≡ true → FreePart (statement_run statement)
+  Good statement = statement_is_quiet lines still statement ≡ true → FreePart (statement_run statement)
 
   abbrev GoodKind : StatementKind → Type 0
-  GoodKind kind = (line : ℕ) → kind_is_quiet lines kind line ≡ true → FreePart (kind_run kind line)
+  GoodKind kind = (line : ℕ) → kind_is_quiet lines still kind line ≡ true → FreePart (kind_run kind line)
 
   abbrev GoodArm : Arm → Type 0
-  GoodArm arm = arm_is_quiet lines arm ≡ true → FreeArm (arm_run arm)
+  GoodArm arm = arm_is_quiet lines still arm ≡ true → FreeArm (arm_run arm)
 
   abbrev WithKind : Type 0
   WithKind = (e : StatementKind) × GoodKind e
@@ -207,107 +217,111 @@ module _ (lines : List ℕ) where
 
   abbrev tests : Whole → StatementKind-F (ℕ → Bool) Bool Bool
   tests x =
-      map-StatementKind StatementKind Arm Statement (ℕ → Bool) Bool Bool (kind_is_quiet lines) (arm_is_quiet lines)
-      (is_quiet lines) x
+      map-StatementKind StatementKind Arm Statement (ℕ
+      → Bool) Bool Bool (kind_is_quiet lines still) (arm_is_quiet lines still)
+      (statement_is_quiet lines still) x
 
   abbrev is_layer : WithGood → ℕ → Bool
-  is_layer y line = quiet.kind_layer lines (tests (parts y)) line
+  is_layer y line = quiet.kind_layer lines still (tests (parts y)) line
 
   free-if-kind : (arms : List WithArm) (o : Option (Part Signal))
-      → all_pure (map (arm_is_quiet lines) (map (λ e. e.0) arms)) ≡ true
+      → all_pure (map (arm_is_quiet lines still) (map (λ e. e.0) arms)) ≡ true
       → ((part : Part Signal) → o ≡ Some part → FreePart part)
       → FreePart (arms_run (map arm_run (map (λ e. e.0) arms)) o)
   free-if-kind arms o all keep = free-arms (map arm_run (map (λ e. e.0) arms)) o
-      (each-free (arm_is_quiet lines) arm_run FreeArm arms all) keep
+      (each-free (arm_is_quiet lines still) arm_run FreeArm arms all) keep
 
   free-layer : (y : WithGood) (line : ℕ) → is_layer y line ≡ true → FreePart (runs_of.kind_layer (runs (parts y)) line)
-  free-layer StatementKind-F.Empty line h = λ setting s. tt
+  free-layer StatementKind-F.Empty line h = λ s. tt
   free-layer (StatementKind-F.Expression e) line h =
-      let both = both-true (is_free lines line) (is_momentless e) h in
-      λ setting s. (refl, both.0, λ t. free-then _ _ (keeps e both.1 setting t) (λ v u. tt))
+      let both = both-true (is_free lines line) (still e) h in
+      λ s. (both.0, λ t. free-then lines calls _ _ (keeps e both.1 t) (λ v u. tt))
   free-layer (StatementKind-F.Echo operands) line h =
-      let both = both-true (is_free lines line) (list_all is_momentless operands) h in
-      λ setting s. (refl, both.0, λ t. free-echoes operands both.1 setting t)
+      let both = both-true (is_free lines line) (list_all still operands) h in
+      λ s. (both.0, λ t. free-echoes operands both.1 t)
   free-layer (StatementKind-F.Block statements) line h =
       free-sequence (map statement_run (map (λ e. e.0) statements))
-      (each-free (is_quiet lines) statement_run FreePart statements h)
+      (each-free (statement_is_quiet lines still) statement_run FreePart statements h)
   free-layer (StatementKind-F.If arms None) line h =
-      let both = both-true (all_pure (map (arm_is_quiet lines) (map (λ e. e.0) arms))) true h in
+      let both = both-true (all_pure (map (arm_is_quiet lines still) (map (λ e. e.0) arms))) true h in
       free-if-kind arms None both.0 (λ part is. absurd (cc))
   free-layer (StatementKind-F.If arms (Some otherwise)) line h =
-      let both = both-true (all_pure (map (arm_is_quiet lines) (map (λ e. e.0) arms))) (is_quiet lines otherwise.0) h in
+      let both = both-true (all_pure (map (arm_is_quiet lines still) (map (λ e. e.0) arms)))
+      (statement_is_quiet lines still otherwise.0) h in
       free-if-kind arms (Some (statement_run otherwise.0)) both.0
       (λ part is. let same : statement_run otherwise.0 ≡ part = cc in subst FreePart same (otherwise.1 both.1))
   free-layer (StatementKind-F.While test body) line h =
-      let both = both-true (is_free lines line) (is_momentless test && is_quiet lines body.0) h in
-      let more = both-true (is_momentless test) (is_quiet lines body.0) both.1 in
-      let one : list_all is_momentless (test ∷ []) ≡ true = ap (λ b. b && true) more.0 in
-      λ setting. free-turns setting.bound line _ _ _ both.0 (keeps-all (test ∷ []) one setting)
-      (keeps-all [] refl setting) (body.1 more.1 setting)
+      let both = both-true (is_free lines line) (still test && statement_is_quiet lines still body.0) h in
+      let more = both-true (still test) (statement_is_quiet lines still body.0) both.1 in
+      let one : list_all still (test ∷ []) ≡ true = ap (λ b. b && true) more.0 in
+      free-turns setting.bound line _ _ _ both.0 (keeps-all (test ∷ []) one)
+      (keeps-all [] refl) (body.1 more.1)
   free-layer (StatementKind-F.DoWhile body end test) line h =
-      let both = both-true (is_free lines end) (is_momentless test && is_quiet lines body.0) h in
-      let more = both-true (is_momentless test) (is_quiet lines body.0) both.1 in
-      λ setting. free-do_turns setting.bound end _ _ both.0 (keeps test more.0 setting) (body.1 more.1 setting)
+      let both = both-true (is_free lines end) (still test && statement_is_quiet lines still body.0) h in
+      let more = both-true (still test) (statement_is_quiet lines still body.0) both.1 in
+      free-do_turns setting.bound end _ _ both.0 (keeps test more.0) (body.1 more.1)
   free-layer (StatementKind-F.For before until after body) line h =
-      let one = both-true (is_free lines line) (list_all is_momentless before && (list_all is_momentless until
-      && (list_all is_momentless after && is_quiet lines body.0))) h in
-      let two = both-true (list_all is_momentless before) (list_all is_momentless until
-      && (list_all is_momentless after && is_quiet lines body.0)) one.1 in
-      let three = both-true (list_all is_momentless until) (list_all is_momentless after && is_quiet lines body.0) two.1
+      let one = both-true (is_free lines line) (list_all still before && (list_all still until
+      && (list_all still after && statement_is_quiet lines still body.0))) h in
+      let two = both-true (list_all still before) (list_all still until
+      && (list_all still after && statement_is_quiet lines still body.0)) one.1 in
+      let three = both-true (list_all still until) (list_all still after && statement_is_quiet lines still body.0) two.1
       in
-      let four = both-true (list_all is_momentless after) (is_quiet lines body.0) three.1 in
-      λ setting s. (
-        refl,
+      let four = both-true (list_all still after) (statement_is_quiet lines still body.0) three.1 in
+      λ s. (
         one.0,
         λ t.
-            free-then _ _ (keeps-all before two.0 setting t) (λ _.
-            free-turns setting.bound line _ _ _ one.0 (keeps-all until three.0 setting) (keeps-all after four.0 setting)
-            (body.1 four.1 setting)),
+            free-then lines calls _ _ (keeps-all before two.0 t) (λ _.
+            free-turns setting.bound line _ _ _ one.0 (keeps-all until three.0) (keeps-all after four.0)
+            (body.1 four.1)),
       )
   free-layer (StatementKind-F.Foreach subject binding body) line h =
-      let both = both-true (is_free lines line) (is_momentless subject && is_quiet lines body.0) h in
-      let more = both-true (is_momentless subject) (is_quiet lines body.0) both.1 in
-      λ setting s. (
-        refl,
+      let both = both-true (is_free lines line) (still subject && statement_is_quiet lines still body.0) h in
+      let more = both-true (still subject) (statement_is_quiet lines still body.0) both.1 in
+      λ s. (
         both.0,
         λ t.
-            free-then _ _ (keeps subject more.0 setting t)
-            (λ v. free-each line binding (entries v) _ both.0 (body.1 more.1 setting)),
+            free-then lines calls _ _ (keeps subject more.0 t)
+            (λ v. free-each line binding (entries v) _ both.0 (body.1 more.1)),
       )
-  free-layer (StatementKind-F.Break loops) line h = λ setting s. (refl, h, λ t. tt)
-  free-layer (StatementKind-F.Continue loop) line h = λ setting s. (refl, h, λ t. tt)
+  free-layer (StatementKind-F.Break loops) line h = λ s. (h, λ t. tt)
+  free-layer (StatementKind-F.Continue loop) line h = λ s. (h, λ t. tt)
   free-layer (StatementKind-F.Return value) line h =
-      let both = both-true (is_free lines line) (option_map_or is_momentless value true) h in
-      λ setting s. (refl, both.0, λ t. free-return value both.1 setting t)
-  free-layer (StatementKind-F.Global names) line h = absurd (cc)
-  free-layer (StatementKind-F.Unset places) line h = absurd (cc)
-  free-layer (StatementKind-F.Exit value) line h = absurd (cc)
+      let both = both-true (is_free lines line) (option_map_or still value true) h in
+      λ s. (both.0, λ t. free-return value both.1 t)
+  free-layer (StatementKind-F.Global names) line h = λ s. (h, λ t. tt)
+  free-layer (StatementKind-F.Unset places) line h =
+      let both = both-true (is_free lines line) (list_all (place_is_still still) places) h in
+      λ s. (both.0, λ t. free-then lines calls _ _ (free-unset places both.1 t) (λ _ u. tt))
+  free-layer (StatementKind-F.Exit value) line h =
+      let both = both-true (is_free lines line) (option_map_or still value true) h in
+      λ s. (both.0, λ t. free-exit value both.1 t)
 
   step-kind : (x : Whole) (y : WithGood) → parts y ≡ x → GoodKind (roll-StatementKind x)
   unfolding kind_run arm_run statement_run
   step-kind x y is = subst (λ z. GoodKind (roll-StatementKind z)) is (λ line h.
       subst FreePart (sym (ap (λ f. f line) (fold-roll-StatementKind KindRun ArmRun (Part Signal) runs_of.kind_layer
       runs_of.arm_layer runs_of.statement_layer (parts y))))
-      (free-layer y line (sym (ap (λ f. f line) (fold-roll-StatementKind (ℕ → Bool) Bool Bool (quiet.kind_layer lines)
-      (quiet.arm_layer lines) (quiet.statement_layer lines) (parts y))) ∙ h)))
+      (free-layer y line (sym (ap (λ f. f line) (fold-roll-StatementKind (ℕ
+      → Bool) Bool Bool (quiet.kind_layer lines still)
+      (quiet.arm_layer lines still) (quiet.statement_layer lines still) (parts y))) ∙ h)))
 
   step-arm : (x : Arm-F StatementKind Arm Statement) (y : Arm-F WithKind WithArm WithStatement)
       → map-Arm WithKind WithArm WithStatement StatementKind Arm Statement (λ e. e.0) (λ e. e.0) (λ e. e.0) y ≡ x
       → GoodArm (roll-Arm x)
   unfolding kind_run arm_run statement_run
   step-arm x y is = subst (λ z. GoodArm (roll-Arm z)) is (λ h.
-      let all : (is_free lines y.line && (is_momentless y.test && is_quiet lines y.body.0)) ≡ true =
-      sym (fold-roll-Arm (ℕ → Bool) Bool Bool (quiet.kind_layer lines) (quiet.arm_layer lines)
-      (quiet.statement_layer lines) _) ∙ h in
-      let both = both-true (is_free lines y.line) (is_momentless y.test && is_quiet lines y.body.0) all in
-      let more = both-true (is_momentless y.test) (is_quiet lines y.body.0) both.1 in
+      let all : (is_free lines y.line && (still y.test && statement_is_quiet lines still y.body.0)) ≡ true =
+      sym (fold-roll-Arm (ℕ → Bool) Bool Bool (quiet.kind_layer lines still) (quiet.arm_layer lines still)
+      (quiet.statement_layer lines still) _) ∙ h in
+      let both = both-true (is_free lines y.line) (still y.test && statement_is_quiet lines still y.body.0) all in
+      let more = both-true (still y.test) (statement_is_quiet lines still y.body.0) both.1 in
       subst FreeArm (sym (fold-roll-Arm KindRun ArmRun (Part Signal) runs_of.kind_layer runs_of.arm_layer
       runs_of.statement_layer _))
-      (λ otherwise keep setting s. (
-        refl,
+      (λ otherwise keep s. (
         both.0,
-        λ t. free-then _ _ (keeps y.test more.0 setting t) (λ v u.
-            free-if (holds v) _ _ (y.body.1 more.1 setting u) (keep setting u)),
+        λ t. free-then lines calls _ _ (keeps y.test more.0 t) (λ v u.
+            free-if lines calls (holds v) _ _ (y.body.1 more.1 u) (keep u)),
       )))
 
   step-statement : (x : Statement-F StatementKind Arm Statement) (y : Statement-F WithKind WithArm WithStatement)
@@ -317,11 +331,19 @@ module _ (lines : List ℕ) where
   step-statement x y is = subst (λ z. Good (roll-Statement z)) is (λ h.
       subst FreePart (sym (fold-roll-Statement KindRun ArmRun (Part Signal) runs_of.kind_layer runs_of.arm_layer
       runs_of.statement_layer _))
-      (y.kind.1 y.line (sym (fold-roll-Statement (ℕ → Bool) Bool Bool (quiet.kind_layer lines) (quiet.arm_layer lines)
-      (quiet.statement_layer lines) _) ∙ h)))
+      (y.kind.1 y.line (sym (fold-roll-Statement (ℕ
+      → Bool) Bool Bool (quiet.kind_layer lines still) (quiet.arm_layer lines still)
+      (quiet.statement_layer lines still) _) ∙ h)))
 
   -- ---- whole trees
 
-  pub free-statement : (statement : Statement) → is_quiet lines statement ≡ true
+  pub free-statement : (statement : Statement) → statement_is_quiet lines still statement ≡ true
       → FreePart (statement_run statement)
   free-statement statement = ind-Statement GoodKind GoodArm Good step-kind step-arm step-statement statement
+
+  pub free-body : (all : List Statement) → list_all (statement_is_quiet lines still) all ≡ true
+      → FreePart (body_run all)
+  free-body [] h s = tt
+  free-body (first ∷ rest) h s =
+      let both = both-true (statement_is_quiet lines still first) (list_all (statement_is_quiet lines still) rest) h in
+      free-then lines calls _ _ (free-statement first both.0 s) (free-go_on _ (free-body rest both.1))

@@ -1,47 +1,58 @@
 //! Whether a statement is quiet: found by a walk that ends at the first part that is not.
 
 ghost use Rattle.std.specs.Prelude.{◌≡◌, true};
-ghost use Rattle.std.specs.Option.{option_map_or};
+ghost use Rattle.std.specs.Option.{option_copied, option_map_or};
 ghost use Rattle.std.specs.List.{list_all};
-ghost use Rattle.dp_meaning.specs.Momentless as momentless;
 ghost use Rattle.dp_quiet.specs.Quiet as quiet;
 ghost use Rattle.dp_quiet.specs.inner.Parts as parts;
 
+use dp_depth::{DeepNames, any_deep, is_deep};
 use dp_meaning::{all_momentless, is_momentless};
-use dp_tree::{Arm, Boxed, Expression, Statement, StatementKind};
+use dp_tree::{Arm, Boxed, Expression, Place, Statement, StatementKind};
 
 /// Whether a statement is quiet.
 #[cycle(statements)]
-pub(crate) fn statement_is_quiet(lines: &[u32], statement: &Statement) -> bool
-    ensures { result ≡ quiet.is_quiet lines.now statement.now }
+pub(crate) fn statement_is_quiet<'p>(
+    lines: &[u32],
+    loud: Option<&DeepNames<'p>>,
+    statement: &'p Statement,
+) -> bool
+    ensures { result ≡ quiet.statement_is_quiet lines.now (parts.stills (option_copied loud.entry)) statement.now }
 {
-    kind_is_quiet(lines, &statement.kind, statement.line)
+    kind_is_quiet(lines, loud, &statement.kind, statement.line)
 }
 
 /// The same of a statement of this kind that begins on this line.
 #[cycle(statements)]
 #[tactic(auto, using(crate::proofs::TreeQuiet::block_quiet, crate::proofs::TreeQuiet::if_quiet))]
-fn kind_is_quiet(lines: &[u32], kind: &StatementKind, line: u32) -> bool
-    ensures { result ≡ parts.kind_is_quiet lines.now kind.now line }
+fn kind_is_quiet<'p>(
+    lines: &[u32],
+    loud: Option<&DeepNames<'p>>,
+    kind: &'p StatementKind,
+    line: u32,
+) -> bool
+    ensures { result ≡ parts.kind_is_quiet lines.now (parts.stills (option_copied loud.entry)) kind.now line }
 {
     match kind {
         StatementKind::Empty => true,
-        StatementKind::Expression(e) => is_free(lines, line) && is_momentless(e),
+        StatementKind::Expression(e) => is_free(lines, line) && is_still(loud, e),
         StatementKind::Echo(operands) => is_free(lines, line)
-            && all_momentless(operands.as_slice()),
-        StatementKind::Block(all) => all_quiet(lines, all.as_slice()),
-        StatementKind::If { arms, otherwise } => arms_are_quiet(lines, arms.as_slice())
-            && otherwise_is_quiet(lines, otherwise),
+            && all_still(loud, operands.as_slice()),
+        StatementKind::Block(all) => all_quiet(lines, loud, all.as_slice()),
+        StatementKind::If { arms, otherwise } => arms_are_quiet(lines, loud, arms.as_slice())
+            && otherwise_is_quiet(lines, loud, otherwise),
         StatementKind::While { test, body } => {
-            is_free(lines, line) && is_momentless(test) && statement_is_quiet(lines, body.as_ref())
+            is_free(lines, line)
+                && is_still(loud, test)
+                && statement_is_quiet(lines, loud, body.as_ref())
         }
         StatementKind::DoWhile {
             body,
             line: end,
             test,
         } => is_free(lines, *end)
-            && is_momentless(test)
-            && statement_is_quiet(lines, body.as_ref()),
+            && is_still(loud, test)
+            && statement_is_quiet(lines, loud, body.as_ref()),
         StatementKind::For {
             before,
             tests,
@@ -49,10 +60,10 @@ fn kind_is_quiet(lines: &[u32], kind: &StatementKind, line: u32) -> bool
             body,
         } => {
             is_free(lines, line)
-                && all_momentless(before.as_slice())
-                && all_momentless(tests.as_slice())
-                && all_momentless(after.as_slice())
-                && statement_is_quiet(lines, body.as_ref())
+                && all_still(loud, before.as_slice())
+                && all_still(loud, tests.as_slice())
+                && all_still(loud, after.as_slice())
+                && statement_is_quiet(lines, loud, body.as_ref())
         }
         StatementKind::Foreach {
             subject,
@@ -60,22 +71,29 @@ fn kind_is_quiet(lines: &[u32], kind: &StatementKind, line: u32) -> bool
             body,
         } => {
             is_free(lines, line)
-                && is_momentless(subject)
-                && statement_is_quiet(lines, body.as_ref())
+                && is_still(loud, subject)
+                && statement_is_quiet(lines, loud, body.as_ref())
         }
         StatementKind::Break(_) | StatementKind::Continue(_) => is_free(lines, line),
-        StatementKind::Return(value) => is_free(lines, line) && is_momentless_if_any(value),
-        StatementKind::Global(_) | StatementKind::Unset(_) | StatementKind::Exit(_) => false,
+        StatementKind::Return(value) => is_free(lines, line) && is_still_if_any(loud, value),
+        StatementKind::Global(_) => is_free(lines, line),
+        StatementKind::Unset(places) => is_free(lines, line)
+            && places_are_still(loud, places.as_slice()),
+        StatementKind::Exit(value) => is_free(lines, line) && is_still_if_any(loud, value),
     }
 }
 
 /// Whether each of these statements is quiet.
 #[cycle(statements)]
-fn all_quiet(lines: &[u32], all: &[Statement]) -> bool
-    ensures { result ≡ list_all (quiet.is_quiet lines.now) all.now }
+pub(crate) fn all_quiet<'p>(
+    lines: &[u32],
+    loud: Option<&DeepNames<'p>>,
+    all: &'p [Statement],
+) -> bool
+    ensures { result ≡ list_all (quiet.statement_is_quiet lines.now (parts.stills (option_copied loud.entry))) all.now }
 {
     for statement in all {
-        if !statement_is_quiet(lines, statement) {
+        if !statement_is_quiet(lines, loud, statement) {
             return false;
         }
     }
@@ -84,11 +102,11 @@ fn all_quiet(lines: &[u32], all: &[Statement]) -> bool
 
 /// Whether the test and the body of each of these arms are quiet.
 #[cycle(statements)]
-fn arms_are_quiet(lines: &[u32], all: &[Arm]) -> bool
-    ensures { result ≡ list_all (parts.arm_is_quiet lines.now) all.now }
+fn arms_are_quiet<'p>(lines: &[u32], loud: Option<&DeepNames<'p>>, all: &'p [Arm]) -> bool
+    ensures { result ≡ list_all (parts.arm_is_quiet lines.now (parts.stills (option_copied loud.entry))) all.now }
 {
     for arm in all {
-        if !arm_is_quiet(lines, arm) {
+        if !arm_is_quiet(lines, loud, arm) {
             return false;
         }
     }
@@ -97,30 +115,69 @@ fn arms_are_quiet(lines: &[u32], all: &[Arm]) -> bool
 
 /// Whether the test and the body of an arm are quiet.
 #[cycle(statements)]
-fn arm_is_quiet(lines: &[u32], arm: &Arm) -> bool
-    ensures { result ≡ parts.arm_is_quiet lines.now arm.now }
+fn arm_is_quiet<'p>(lines: &[u32], loud: Option<&DeepNames<'p>>, arm: &'p Arm) -> bool
+    ensures { result ≡ parts.arm_is_quiet lines.now (parts.stills (option_copied loud.entry)) arm.now }
 {
-    is_free(lines, arm.line) && is_momentless(&arm.test) && statement_is_quiet(lines, &arm.body)
+    is_free(lines, arm.line)
+        && is_still(loud, &arm.test)
+        && statement_is_quiet(lines, loud, &arm.body)
 }
 
 /// Whether there is no `else`, or one that is quiet.
 #[cycle(statements)]
-fn otherwise_is_quiet(lines: &[u32], otherwise: &Option<Boxed<Statement>>) -> bool
-    ensures { result ≡ option_map_or (quiet.is_quiet lines.now) otherwise.now true }
+fn otherwise_is_quiet<'p>(
+    lines: &[u32],
+    loud: Option<&DeepNames<'p>>,
+    otherwise: &'p Option<Boxed<Statement>>,
+) -> bool
+    ensures { result ≡ option_map_or (quiet.statement_is_quiet lines.now (parts.stills (option_copied loud.entry)))
+        otherwise.now true }
 {
     match otherwise {
-        Some(statement) => statement_is_quiet(lines, statement.as_ref()),
+        Some(statement) => statement_is_quiet(lines, loud, statement.as_ref()),
         None => true,
     }
 }
 
-/// Whether there is no expression, or one in which no moment can come.
-fn is_momentless_if_any(e: &Option<Expression>) -> bool
-    ensures { result ≡ option_map_or momentless.is_momentless e.now true }
+/// Whether there is no expression, or one that is still.
+fn is_still_if_any<'p>(loud: Option<&DeepNames<'p>>, e: &'p Option<Expression>) -> bool
+    ensures { result ≡ option_map_or (parts.stills (option_copied loud.entry)) e.now true }
 {
     match e {
-        Some(e) => is_momentless(e),
+        Some(e) => is_still(loud, e),
         None => true,
+    }
+}
+
+/// Whether each index of each of these places is still.
+fn places_are_still<'p>(loud: Option<&DeepNames<'p>>, all: &'p [Place]) -> bool
+    ensures { result ≡ list_all (quiet.place_is_still (parts.stills (option_copied loud.entry))) all.now }
+{
+    for place in all {
+        if !all_still(loud, place.indices.as_slice()) {
+            return false;
+        }
+    }
+    true
+}
+
+/// Whether an expression includes no file and calls no function of the program, or none of these names.
+fn is_still<'p>(loud: Option<&DeepNames<'p>>, e: &'p Expression) -> bool
+    ensures { result ≡ parts.stills (option_copied loud.entry) e.now }
+{
+    match loud {
+        Some(loud) => !is_deep(loud, e),
+        None => is_momentless(e),
+    }
+}
+
+/// Whether each of these expressions is so.
+fn all_still<'p>(loud: Option<&DeepNames<'p>>, all: &'p [Expression]) -> bool
+    ensures { result ≡ list_all (parts.stills (option_copied loud.entry)) all.now }
+{
+    match loud {
+        Some(loud) => !any_deep(loud, all),
+        None => all_momentless(all),
     }
 }
 

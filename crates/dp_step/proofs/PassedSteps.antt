@@ -1,5 +1,5 @@
 -- A machine that passes moments goes past those of the program that it stands for.
-use Rattle.std.proofs.Common.{◌≡◌, ℕ, zero, suc, ◌+◌, ◌-◌, ◌<◌, ◌≤◌, List, length, Some, None, refl, sym, ap, ◌∙◌, subst, arith}
+use Rattle.std.proofs.Common.{◌≡◌, ℕ, zero, suc, ◌+◌, ◌-◌, ◌<◌, ◌≤◌, Bool, List, length, Some, None, refl, sym, ap, ◌∙◌, subst, arith}
 use Rattle.std.proofs.lemmas.Option.{slice_get_within}
 use Rattle.std.specs.Prelude.{option_map, slice_get}
 use Rattle.dp_tree.specs.declared.bundle.Bundle.{Bundle}
@@ -29,7 +29,7 @@ use Rattle.dp_step.proofs.LeapLaws.{all-counted}
 use Rattle.dp_step.proofs.MachineSteps.{Onward, nothing-by, of_image, onward, raised}
 use Rattle.dp_step.proofs.WritesMade.{number-is}
 
-module _ (lines : List ℕ) (bundle : Bundle) (bound : ℕ) (writes : List NumberedWrite) where
+module _ (lines : List ℕ) (calls : Bool) (bundle : Bundle) (bound : ℕ) (writes : List NumberedWrite) where
   abbrev ws : Writes
   ws = writes_of bundle writes
 
@@ -64,8 +64,8 @@ module _ (lines : List ℕ) (bundle : Bundle) (bound : ℕ) (writes : List Numbe
       )
 
   -- past all that are passed
-  over : (k n : ℕ) (r l : Run Signal) → On n r → NoneAbove n writes → Passes lines bound r k l
-      → On (n + k) l × NoneAbove (n + k) writes × ArePassed lines whole n k
+  over : (k n : ℕ) (r l : Run Signal) → On n r → NoneAbove n writes → Passes lines calls bound r k l
+      → On (n + k) l × NoneAbove (n + k) writes × ArePassed lines calls whole n k
   over zero n r l on none p =
       let e : n ≡ n + 0 = omega arith in
       (subst (λ m. On m l) e (subst (On n) p on), subst (λ m. NoneAbove m writes) e none, tt)
@@ -154,7 +154,7 @@ module _ (lines : List ℕ) (bundle : Bundle) (bound : ℕ) (writes : List Numbe
       let found = of_image _ _ _ stands.state in
       let long = slice_get_within whole.moments k found.0 found.1 in omega (arith, long)
 
-  within : (k n : ℕ) → n ≤ length whole.moments → ArePassed lines whole n k → n + k ≤ length whole.moments
+  within : (k n : ℕ) → n ≤ length whole.moments → ArePassed lines calls whole n k → n + k ≤ length whole.moments
   within zero n h passed = omega (arith, h)
   within (suc k) n h passed =
       let long = slice_get_within whole.moments n passed.0.0 passed.0.1 in
@@ -166,7 +166,7 @@ module _ (lines : List ℕ) (bundle : Bundle) (bound : ℕ) (writes : List Numbe
   all-are = all-counted bundle bound writes 0 (program_run bundle bound) (steady-program bundle bound) ∙ omega arith
 
   counts : (n k : ℕ) (old new : Machine) (came : Progress) → StandsFor bundle bound writes n old
-      → ArePassed lines whole n k → GoesOn bundle bound writes (n + k) came new → (begun after : ℕ)
+      → ArePassed lines calls whole n k → GoesOn bundle bound writes (n + k) came new → (begun after : ℕ)
       → after ≡ begun + (new.state.moments - old.state.moments) → after ≡ begun + k + steps_of came
   counts n k old new (progress.At moment) stands passed goes begun after told =
       let first = number-is bundle bound writes n old stands in
@@ -180,11 +180,11 @@ module _ (lines : List ℕ) (bundle : Bundle) (bound : ℕ) (writes : List Numbe
   -- ---- the whole way
 
   pub goes-past : (n : ℕ) (old new : Machine) (came : Progress) → StandsFor bundle bound writes n old
-      → Gets lines old came new → (begun after : ℕ) → after ≡ begun + (new.state.moments - old.state.moments)
-      → GoesPast lines bundle bound writes n came new begun after
+      → Gets lines calls old came new → (begun after : ℕ) → after ≡ begun + (new.state.moments - old.state.moments)
+      → GoesPast lines calls bundle bound writes n came new begun after
   goes-past n old new came stands gets begun after told =
       let way = gets.approaches in
-      let passes = subst (λ (b : ℕ). Passes lines b (rest_of old old.state) way.over way.later) stands.same_bound
+      let passes = subst (λ (b : ℕ). Passes lines calls b (rest_of old old.state) way.over way.later) stands.same_bound
       way.passes in
       let leads = subst (λ (b : ℕ). LeadsTo b way.later gets.arrival gets.mid) stands.same_bound way.leads in
       let past = over way.over n (rest_of old old.state) way.later (onward bundle bound writes n old stands)

@@ -1,5 +1,5 @@
 -- What a machine does on its way past moments.
-use Rattle.std.proofs.Common.{◌≡◌, ℕ, ◌+◌, List, [], Option, Some, None, Ok, Err, refl, sym, ap, ◌∙◌, subst}
+use Rattle.std.proofs.Common.{◌≡◌, ℕ, ◌+◌, Bool, is_some, List, [], Option, Some, None, Ok, Err, refl, sym, ap, ◌∙◌, subst}
 use Rattle.dp_tree.specs.declared.tree.Statement.{Statement}
 use Rattle.dp_state.specs.declared.moments.Outcome.{Outcome}
 use Rattle.dp_state.specs.declared.state.State.{State}
@@ -21,56 +21,64 @@ use Rattle.dp_step.specs.inner.Leaps.{whole_of}
 use Rattle.dp_step.specs.inner.Moves.{Goes, IsOver, follows_of, setting_at}
 use Rattle.dp_step.specs.inner.Passing.{Approaches, IsInHand, IsOverBy, LeadsTo, Nears, NearsBy, Passes}
 use Rattle.dp_step.specs.Stands.{rest_of}
+use Rattle.dp_quiet.specs.Quiet.{AreLoud, OnFree}
 use Rattle.dp_step.proofs.PassedRuns.{ends, gives, passes-on}
 use Rattle.dp_step.proofs.Smalls.{rest-by}
 
-module _ (lines : List ℕ) where
-  -- ---- a statement that was in hand
+-- ---- a statement that was in hand
 
-  module _ (old : Machine) (statement : Statement) (in_hand : IsInHand lines old.hand statement) where
-    abbrev this : Run Signal
-    this = statement_run statement (setting_at old) old.state
+module _ (lines : List ℕ) (names : Option (List (List ℕ))) (old : Machine) (statement : Statement)
+    (are_loud : AreLoud lines old.bundle.now names) (in_hand : IsInHand lines names old.hand statement) where
+  abbrev calls : Bool
+  calls = is_some names
 
-    was : rest_of old old.state ≡ (this >>= to_signal (follows_of old))
-    unfolding rest_of
-    was = in_hand.1 (setting_at old) (follows_of old) old.state
+  free : OnFree lines calls (statement_run statement (setting_at old) old.state)
+  free = in_hand.0.1 old.bundle.now are_loud old.bound old.depth old.state
 
-    pub quiet-on : (g : Signal) (s : State) (new : Machine)
-        → RunsWhole (whole_of old) (statement_run statement) (Ok g) old.state s
-        → new.bundle.now ≡ old.bundle.now → new.bound ≡ old.bound → new.depth ≡ old.depth
-        → new.hand ≡ hand.Part (part.Give (given.Signal g)) → new.pending.items ≡ old.pending.items → new.state ≡ s
-        → NearsBy lines old new
-    quiet-on g s new ran bundle bound depth held items state =
-        let passed = gives lines in_hand.0.0 old.bound (to_signal (follows_of old)) this
-        (in_hand.0.1 (setting_at old) old.state) g s
-        (meets old.bound (writes_of old.bundle.now []) refl this (Ok g) s ran) in
-        let is : rest_of new new.state ≡ to_signal (follows_of old) g s =
-        ap (rest_of new) state ∙ rest-by new old.bundle.now old.bound old.depth
-        (hand.Part (part.Give (given.Signal g))) old.pending.items bundle bound depth held items s in record {
-          over = passed.0;
-          passes = subst (λ (r : Run Signal). Passes lines old.bound r passed.0 (rest_of new new.state)) (sym was)
-              (subst (λ (r : Run Signal). Passes lines old.bound (this >>= to_signal (follows_of old)) passed.0 r)
-              (sym is) passed.1);
-          same_bundle = bundle;
-          same_bound = bound;
-        }
+  abbrev this : Run Signal
+  this = statement_run statement (setting_at old) old.state
 
-    pub quiet-over : (o : Outcome) (new : Machine)
-        → RunsWhole (whole_of old) (statement_run statement) (Err (halt.Finished o)) old.state new.state
-        → new.bundle.now ≡ old.bundle.now → new.bound ≡ old.bound
-        → Approaches lines old (arrival.End o) new
-    quiet-over o new ran bundle bound =
-        let passed = ends lines in_hand.0.0 old.bound (to_signal (follows_of old)) this
-        (in_hand.0.1 (setting_at old) old.state) o new.state
-        (meets old.bound (writes_of old.bundle.now []) refl this (Err (halt.Finished o)) new.state ran) in record {
-          over = passed.0;
-          later = passed.1;
-          passes = subst (λ (r : Run Signal). Passes lines old.bound r passed.0 passed.1) (sym was) passed.2;
-          leads = passed.3;
-          same_bundle = bundle;
-          same_bound = bound;
-        }
+  was : rest_of old old.state ≡ (this >>= to_signal (follows_of old))
+  unfolding rest_of
+  was = in_hand.1 (setting_at old) (follows_of old) old.state
 
+  pub quiet-on : (g : Signal) (s : State) (new : Machine)
+      → RunsWhole (whole_of old) (statement_run statement) (Ok g) old.state s
+      → new.bundle.now ≡ old.bundle.now → new.bound ≡ old.bound → new.depth ≡ old.depth
+      → new.hand ≡ hand.Part (part.Give (given.Signal g)) → new.pending.items ≡ old.pending.items → new.state ≡ s
+      → NearsBy lines calls old new
+  quiet-on g s new ran bundle bound depth held items state =
+      let passed = gives lines calls in_hand.0.0 old.bound (to_signal (follows_of old)) this
+      free g s
+      (meets old.bound (writes_of old.bundle.now []) refl this (Ok g) s ran) in
+      let is : rest_of new new.state ≡ to_signal (follows_of old) g s =
+      ap (rest_of new) state ∙ rest-by new old.bundle.now old.bound old.depth
+      (hand.Part (part.Give (given.Signal g))) old.pending.items bundle bound depth held items s in record {
+        over = passed.0;
+        passes = subst (λ (r : Run Signal). Passes lines calls old.bound r passed.0 (rest_of new new.state)) (sym was)
+            (subst (λ (r : Run Signal). Passes lines calls old.bound (this >>= to_signal (follows_of old)) passed.0 r)
+            (sym is) passed.1);
+        same_bundle = bundle;
+        same_bound = bound;
+      }
+
+  pub quiet-over : (o : Outcome) (new : Machine)
+      → RunsWhole (whole_of old) (statement_run statement) (Err (halt.Finished o)) old.state new.state
+      → new.bundle.now ≡ old.bundle.now → new.bound ≡ old.bound
+      → Approaches lines calls old (arrival.End o) new
+  quiet-over o new ran bundle bound =
+      let passed = ends lines calls in_hand.0.0 old.bound (to_signal (follows_of old)) this
+      free o new.state
+      (meets old.bound (writes_of old.bundle.now []) refl this (Err (halt.Finished o)) new.state ran) in record {
+        over = passed.0;
+        later = passed.1;
+        passes = subst (λ (r : Run Signal). Passes lines calls old.bound r passed.0 passed.1) (sym was) passed.2;
+        leads = passed.3;
+        same_bundle = bundle;
+        same_bound = bound;
+      }
+
+module _ (lines : List ℕ) (calls : Bool) where
   -- ---- a small step
 
   over-by : (bound : ℕ) (r : Run Signal) (o : Outcome) (t : State) → IsOver r o t → IsOverBy bound r o t
@@ -79,7 +87,7 @@ module _ (lines : List ℕ) where
   over-by bound (At kind line s go) o t h = absurd h
 
   pub small-nears : (old new : Machine) (came : Option Arrival) → Goes old (rest_of old old.state) came new
-      → Nears lines old came new
+      → Nears lines calls old came new
   small-nears old new None goes = record {
     over = 0;
     passes = goes.by;
@@ -105,28 +113,30 @@ module _ (lines : List ℕ) where
 
   -- ---- one after the other
 
-  pub nears-first : (m : Machine) → NearsBy lines m m
+  pub nears-first : (m : Machine) → NearsBy lines calls m m
   nears-first m = record { over = 0; passes = refl; same_bundle = refl; same_bound = refl }
 
-  module _ (old mid new : Machine) (way : NearsBy lines old mid) where
-    pub nears-on : NearsBy lines mid new → NearsBy lines old new
+  module _ (old mid new : Machine) (way : NearsBy lines calls old mid) where
+    pub nears-on : NearsBy lines calls mid new → NearsBy lines calls old new
     nears-on more = record {
       over = way.over + more.over;
-      passes = passes-on lines old.bound way.over more.over (rest_of old old.state) (rest_of mid mid.state)
+      passes = passes-on lines calls old.bound way.over more.over (rest_of old old.state) (rest_of mid mid.state)
           (rest_of new new.state) way.passes
-          (subst (λ (b : ℕ). Passes lines b (rest_of mid mid.state) more.over (rest_of new new.state)) way.same_bound
+          (subst (λ (b : ℕ). Passes lines calls b (rest_of mid mid.state) more.over
+          (rest_of new new.state)) way.same_bound
           more.passes);
       same_bundle = more.same_bundle ∙ way.same_bundle;
       same_bound = more.same_bound ∙ way.same_bound;
     }
 
-    pub nears-there : (came : Arrival) → Approaches lines mid came new → Approaches lines old came new
+    pub nears-there : (came : Arrival) → Approaches lines calls mid came new → Approaches lines calls old came new
     nears-there came more = record {
       over = way.over + more.over;
       later = more.later;
-      passes = passes-on lines old.bound way.over more.over (rest_of old old.state) (rest_of mid mid.state)
+      passes = passes-on lines calls old.bound way.over more.over (rest_of old old.state) (rest_of mid mid.state)
           more.later way.passes
-          (subst (λ (b : ℕ). Passes lines b (rest_of mid mid.state) more.over more.later) way.same_bound more.passes);
+          (subst (λ (b : ℕ). Passes lines calls b (rest_of mid mid.state) more.over more.later) way.same_bound
+          more.passes);
       leads = subst (λ (b : ℕ). LeadsTo b more.later came new) way.same_bound more.leads;
       same_bundle = more.same_bundle ∙ way.same_bundle;
       same_bound = more.same_bound ∙ way.same_bound;

@@ -54,9 +54,10 @@ impl<'p> Machine<'p> {
     ghost use Rattle.dp_step.specs.Stands.{GoesOn, HasEnded, HasFailed, Leaves, StandsFor, rest_of, steps_of};
     ghost use Rattle.dp_step.specs.inner.Moves.{Arrives, Comes, Goes};
 
-    /// A program before its first moment. A run has at most `bound` moments.
+    /// A program before its first moment, whose machine has not failed. A run has at most `bound` moments.
     pub fn start(alloc: Global, bundle: &'p Bundle, bound: u64) -> Result<Machine<'p>, Memory>
-        ensures { IfOk result (λ machine. StandsFor bundle.now bound [] 0 machine) }
+        ensures starts { IfOk result (λ machine. StandsFor bundle.now bound [] 0 machine) }
+        ensures whole { IfOk result (λ machine. HasFailed machine → ⊥) }
     {
         let state = State::opening(alloc, bundle)?;
         Ok(Machine {

@@ -11,6 +11,7 @@ ghost use Rattle.dp_step_statements.specs.Rest.{behind, hand_rest, waiting_rest}
 ghost use Rattle.dp_step_parts.specs.Rest.{Follows, to_signal};
 ghost use Rattle.dp_step_statements.specs.declared.work.Waiting.TheVariants as any_waiting;
 ghost use Rattle.dp_step.specs.inner.Moves.{ends_call as call_ends, leave_if};
+ghost use Rattle.dp_step_statements.specs.declared.work.Hand.TheVariants as any_hand;
 
 use crate::machine::Machine;
 use dp_actions::{Halt, Signal, enter_call, enter_file, fatal};
@@ -29,7 +30,6 @@ impl<'p> Machine<'p> {
     ghost use Rattle.dp_meaning.specs.Momentless.{is_momentless as has_no_moment};
     ghost use Rattle.dp_state.specs.declared.state.State.{State as AnyState};
     ghost use Rattle.dp_step.specs.Stands.{rest_of};
-    ghost use Rattle.dp_step_statements.specs.declared.work.Hand.TheVariants as any_hand;
     ghost use Rattle.dp_step_parts.specs.declared.work.Hand.TheVariants as any_part;
     ghost use Rattle.dp_step.specs.inner.Moves.{Moves, body_with, end_with, file_with, next_with, rest_with};
     ghost use Rattle.dp_step.specs.inner.Moves.{small_with, work_with};
@@ -327,7 +327,8 @@ fn push_item<'p>(pending: &mut Vec<Waiting<'p>>, item: Waiting<'p>) -> Result<()
 
 /// The statements of the file of this number.
 pub(crate) fn file_hand<'p>(bundle: &'p Bundle, file: u32) -> Hand<'p>
-    ensures { (setting : Setting) (k : Follows) (s : SomeState)
+    ensures whole { result ≡ any_hand.Failed → ⊥ }
+    ensures rest { (setting : Setting) (k : Follows) (s : SomeState)
         → hand_rest setting result k s ≡ and_then (body_run (body_of bundle.now file) setting s) (to_signal k) }
 {
     match bundle.files.as_slice().get(file as usize) {

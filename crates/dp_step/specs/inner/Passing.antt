@@ -1,5 +1,5 @@
 -- A machine that passes moments: what it has to do, and what was to be done before.
-use Rattle.std.specs.Prelude.{◌≡◌, ℕ, zero, suc, ◌<◌, ◌≤◌, true, List, Option, Some, None}
+use Rattle.std.specs.Prelude.{◌≡◌, ℕ, zero, suc, ◌<◌, ◌≤◌, Bool, true, List, Option, Some, None, is_some}
 use Rattle.dp_state.specs.declared.moments.Outcome.{Outcome}
 use Rattle.dp_state.specs.declared.moments.Outcome.TheVariants as way
 use Rattle.dp_state.specs.declared.state.State.{State}
@@ -10,7 +10,9 @@ use Rattle.dp_actions.specs.Setting.{Setting}
 use Rattle.dp_actions.specs.Statements.{statement_run}
 use Rattle.dp_meaning.specs.Trace.{moment_of}
 use Rattle.dp_meaning.specs.Writes.{arrived}
-use Rattle.dp_quiet.specs.Quiet.{OnFree, is_free}
+use Rattle.dp_meaning.specs.Programs.{setting_of}
+use Rattle.dp_quiet.specs.Quiet.{AreLoud, OnFree, is_free}
+use Rattle.dp_tree.specs.declared.bundle.Bundle.{Bundle}
 use Rattle.dp_step.specs.declared.machine.Arrival.{Arrival}
 use Rattle.dp_step.specs.declared.machine.Arrival.TheVariants as arrival
 use Rattle.dp_step.specs.declared.machine.Machine.{Machine}
@@ -24,26 +26,27 @@ use Rattle.dp_step_statements.specs.declared.work.Hand.{Hand}
 use Rattle.dp_step_statements.specs.Rest.{hand_rest}
 
 -- a statement has no moments but such as are passed, in whatever frame
-abbrev pub IsQuietBy : List ℕ → Statement → Type 0
-IsQuietBy lines statement =
+abbrev pub IsQuietBy : List ℕ → Option (List (List ℕ)) → Statement → Type 0
+IsQuietBy lines names statement =
     (is_free lines 0 ≡ true)
-    × ((setting : Setting) (s : State) → OnFree lines (statement_run statement setting s))
+    × ((bundle : Bundle) → AreLoud lines bundle names → (bound depth : ℕ) (s : State)
+    → OnFree lines (is_some names) (statement_run statement (setting_of bundle bound depth) s))
 
 -- it is what is in hand
-abbrev pub IsInHand : List ℕ → Hand → Statement → Type 0
-IsInHand lines hand statement =
-    IsQuietBy lines statement
+abbrev pub IsInHand : List ℕ → Option (List (List ℕ)) → Hand → Statement → Type 0
+IsInHand lines names hand statement =
+    IsQuietBy lines names statement
     × ((setting : Setting) (k : Follows) (s : State)
     → hand_rest setting hand k s ≡ (statement_run statement setting s >>= to_signal k))
 
 -- from a run so many moments are passed, at which nothing is written, and then comes another run
-abbrev pub Passes : {A : Type 0} → List ℕ → ℕ → Run A → ℕ → Run A → Type 0
-Passes lines bound run zero later = run ≡ later
-Passes lines bound (Done a s) (suc k) later = ⊥
-Passes lines bound (Over o s) (suc k) later = ⊥
-Passes lines bound (At kind line s go) (suc k) later =
-    (s.moments < bound) × IsPassed lines (moment_of kind (arrived line s))
-    × Passes lines bound (go (arrived line s)) k later
+abbrev pub Passes : {A : Type 0} → List ℕ → Bool → ℕ → Run A → ℕ → Run A → Type 0
+Passes lines calls bound run zero later = run ≡ later
+Passes lines calls bound (Done a s) (suc k) later = ⊥
+Passes lines calls bound (Over o s) (suc k) later = ⊥
+Passes lines calls bound (At kind line s go) (suc k) later =
+    (s.moments < bound) × IsPassed lines calls (moment_of kind (arrived line s))
+    × Passes lines calls bound (go (arrived line s)) k later
 
 -- a run is over in a state, also because a moment is beyond the bound
 abbrev pub IsOverBy : {A : Type 0} → ℕ → Run A → Outcome → State → Type 0
@@ -56,25 +59,26 @@ abbrev pub LeadsTo : ℕ → Run Signal → Arrival → Machine → Type 0
 LeadsTo bound run (arrival.Moment kind line) m = ArrivesBy run (arrival.Moment kind line) m
 LeadsTo bound run (arrival.End outcome) m = IsOverBy bound run outcome m.state
 
-pub record Approaches (lines : List ℕ) (old : Machine) (came : Arrival) (new : Machine)
+pub record Approaches
+    (lines : List ℕ) (calls : Bool) (old : Machine) (came : Arrival) (new : Machine)
     : Type 0 where
   pub over : ℕ
   pub later : Run Signal
-  pub passes : Passes lines old.bound (rest_of old old.state) over later
+  pub passes : Passes lines calls old.bound (rest_of old old.state) over later
   pub leads : LeadsTo old.bound later came new
   pub same_bundle : new.bundle.now ≡ old.bundle.now
   pub same_bound : new.bound ≡ old.bound
 
 -- some of the way, which may lead to neither a moment nor the end
-pub record NearsBy (lines : List ℕ) (old new : Machine) : Type 0 where
+pub record NearsBy (lines : List ℕ) (calls : Bool) (old new : Machine) : Type 0 where
   pub over : ℕ
-  pub passes : Passes lines old.bound (rest_of old old.state) over (rest_of new new.state)
+  pub passes : Passes lines calls old.bound (rest_of old old.state) over (rest_of new new.state)
   pub same_bundle : new.bundle.now ≡ old.bundle.now
   pub same_bound : new.bound ≡ old.bound
 
-abbrev pub Nears : List ℕ → Machine → Option Arrival → Machine → Type 0
-Nears lines old None new = NearsBy lines old new
-Nears lines old (Some arrival) new = Approaches lines old arrival new
+abbrev pub Nears : List ℕ → Bool → Machine → Option Arrival → Machine → Type 0
+Nears lines calls old None new = NearsBy lines calls old new
+Nears lines calls old (Some arrival) new = Approaches lines calls old arrival new
 
 -- the moment that comes behind them, or the end
 abbrev pub ComesBehind : Arrival → Machine → Progress → Machine → Type 0
@@ -82,8 +86,10 @@ ComesBehind (arrival.Moment kind line) mid came new = Comes kind line mid came n
 ComesBehind (arrival.End outcome) mid came new =
     (came ≡ progress.Ended outcome) × (new.state ≡ mid.state)
 
-pub record Gets (lines : List ℕ) (old : Machine) (came : Progress) (new : Machine) : Type 0 where
+pub record Gets
+    (lines : List ℕ) (calls : Bool) (old : Machine) (came : Progress) (new : Machine)
+    : Type 0 where
   pub mid : Machine
   pub arrival : Arrival
-  pub approaches : Approaches lines old arrival mid
+  pub approaches : Approaches lines calls old arrival mid
   pub comes : ComesBehind arrival mid came new

@@ -1,15 +1,25 @@
+use Rattle.std.proofs.Common.{is_some, subst, sym}
+use Rattle.std.specs.Option.{option_copied}
+use Rattle.dp_quiet.specs.Quiet.{AreLoud}
+use Rattle.dp_tree.specs.declared.bundle.Bundle.{Bundle}
 use Rattle.dp_step.proofs.PassedWays.{nears-first, nears-on, nears-there}
 use Rattle.dp_step.proofs.machine.Machine.approach.Goals as goal
 
 pub loop-init : goal.loop-init
-loop-init c = nears-first c.args.lines.now c.args.self.now
+loop-init c = λ are_loud. nears-first c.args.lines.now (is_some (option_copied c.args.loud)) c.args.self.now
 
 pub loop-preserved : goal.loop-preserved
-loop-preserved c =
-    nears-on c.args.lines.now c.args.self.now c.loop.self c.nearer.new.self c.loop.invariant
-    (rw c.in-None.is at c.in_ok-nearer.ensures)
+loop-preserved c = λ are_loud.
+    let way = c.loop.invariant are_loud in
+    let here = subst (λ (b : Bundle). AreLoud c.args.lines.now b (option_copied c.args.loud))
+    (sym way.same_bundle) are_loud in
+    nears-on c.args.lines.now (is_some (option_copied c.args.loud)) c.args.self.now c.loop.self c.nearer.new.self way
+    (rw c.in-None.is at (c.in_ok-nearer.ensures here))
 
 pub returns-in-Some : goal.returns-in-Some
-returns-in-Some c =
-    nears-there c.args.lines.now c.args.self.now c.loop.self c.nearer.new.self c.loop.invariant c.in-Some.arrival
-    (rw c.in-Some.is at c.in_ok-nearer.ensures)
+returns-in-Some c = λ are_loud.
+    let way = c.loop.invariant are_loud in
+    let here = subst (λ (b : Bundle). AreLoud c.args.lines.now b (option_copied c.args.loud))
+    (sym way.same_bundle) are_loud in
+    nears-there c.args.lines.now (is_some (option_copied c.args.loud)) c.args.self.now c.loop.self c.nearer.new.self way
+    c.in-Some.arrival (rw c.in-Some.is at (c.in_ok-nearer.ensures here))

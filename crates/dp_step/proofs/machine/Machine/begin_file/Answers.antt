@@ -11,7 +11,7 @@ returns-in-Ok c =
     let kept = c.hold_both.ensures.kept in record {
       by = file-held m m.state _ (statements_of m.bundle.now c.args.file) kept.0 kept.1 (ap (λ n. n - 1) kept.2) kept.3
           (λ setting k t. ap (λ (h : Hand). hand_rest setting h k t) c.in-Ok.ensures.held.0
-          ∙ c.file_hand.ensures setting k t) c.args.file refl c.in-Ok.ensures.held.1;
+          ∙ c.file_hand.ensures.rest setting k t) c.args.file refl c.in-Ok.ensures.held.1;
       same_bundle = kept.0;
       same_bound = kept.1;
     }

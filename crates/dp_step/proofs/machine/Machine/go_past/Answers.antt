@@ -1,3 +1,7 @@
+use Rattle.std.proofs.Common.{is_some, subst, sym}
+use Rattle.std.specs.Option.{option_copied}
+use Rattle.dp_quiet.specs.Quiet.{AreLoud}
+use Rattle.dp_tree.specs.declared.bundle.Bundle.{Bundle}
 use Rattle.dp_step.proofs.PassedSteps.{goes-past}
 use Rattle.dp_step.proofs.machine.Machine.go_past.Goals as goal
 
@@ -5,9 +9,12 @@ pub returns-then-has_failed-clause-leaves : goal.returns-then-has_failed-clause-
 returns-then-has_failed-clause-leaves g c = c.has_failed.ensures.failed c.if-has_failed.true
 
 pub returns-in-Ok-clause-goes_past : goal.returns-in-Ok-clause-goes_past
-returns-in-Ok-clause-goes_past g c = λ bundle bound writes n stands.
-    goes-past c.args.lines.now bundle bound writes n c.args.self.now c.past.new.self c.in-Ok.progress stands
-    c.in-Ok.ensures.gets _ _ (rw c.risen.ensures at c.tick_all.ensures)
+returns-in-Ok-clause-goes_past g c = λ bundle bound writes n stands are_loud.
+    let here = subst (λ (b : Bundle). AreLoud c.args.lines.now b (option_copied c.args.loud)) (sym stands.same_bundle)
+    are_loud in
+    goes-past c.args.lines.now (is_some (option_copied c.args.loud)) bundle bound writes n c.args.self.now
+    c.past.new.self
+    c.in-Ok.progress stands (c.in-Ok.ensures.gets here) _ _ (rw c.risen.ensures at c.tick_all.ensures)
 
 pub returns-in-Ok-clause-leaves : goal.returns-in-Ok-clause-leaves
 returns-in-Ok-clause-leaves g c = rw c.in-Ok.is at c.past.ensures.ends
