@@ -3,6 +3,8 @@ pub mod Lists
 pub mod MachineStops
 pub mod UnseenMoments
 pub mod StopMoments
+pub mod NextMoments
+pub mod Departures
 pub mod WriteAnswers
 pub mod RefusalLaws
 pub mod ResponseSizes

@@ -43,7 +43,7 @@ use Rattle.dp_engine.specs.declared.states.Phase.TheVariants.{Starting, Break, S
 use Rattle.dp_conversation.specs.declared.responder.Answer.{Answer}
 use Rattle.dp_conversation.specs.Folds.{reply_of}
 use Rattle.dp_engine.specs.declared.session.SessionEnd.{SessionEnd}
-use Rattle.dp_engine.specs.Answers.{Turn, answer, command_in, continued, id_in, in_packet, performed, refused, response_in, sent, session_done, shown, to_ide, to_program, turn, turn_by_command, turn_of, written}
+use Rattle.dp_engine.specs.Answers.{Turn, answer, command_in, continued, id_in, in_packet, news, performed, refused, response_in, sent, session_done, shown, to_ide, to_program, turn, turn_by_command, turn_of, written}
 use Rattle.dp_engine.specs.Refused.{IsAnsweredBy, error_alone}
 use Rattle.dp_engine.specs.Refusals.{of_command, own_tests, row_tests, tests, tests_for, refusal, refusal_of_line}
 use Rattle.dp_engine.specs.Responses.{fault_in, response, response_text, value_body}
@@ -243,7 +243,7 @@ answered_as state bytes (Some code) e = refusal_alone state bytes code
 answered_as state bytes None e = record {
   before =
       to_ide state.stdout (written_between state (turn_of (line_of bytes) None state).next)
-      ++ (turn_of (line_of bytes) None state).before;
+      ++ news (turn_of (line_of bytes) None state).before;
   response = (turn_of (line_of bytes) None state).response;
   last = refl;
   no_error = turn_cases (line_of bytes) state None e;

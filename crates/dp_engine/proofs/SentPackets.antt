@@ -13,18 +13,17 @@ use Rattle.dp_packet.specs.Uris.{file_uri}
 use Rattle.dp_packet.proofs.LengthLaws.{packet_some}
 use Rattle.dp_conversation.specs.declared.responder.Answer.{Answer}
 use Rattle.dp_conversation.specs.Folds.{reply_of}
-use Rattle.dp_state.specs.declared.state.State.{State as Program}
 use Rattle.dp_wire.specs.Frames.{IsPacketText}
+use Rattle.dp_engine.specs.declared.session.Report.{Report}
 use Rattle.dp_engine.specs.declared.session.SessionEnd.{SessionEnd}
 use Rattle.dp_engine.specs.declared.replies.Turn.{Turn as Made}
-use Rattle.dp_engine.specs.Answers.{answer, to_ide, to_program, turn, turn_of}
+use Rattle.dp_engine.specs.Answers.{Turn, answer, news, sent, to_ide, to_program, turn, turn_of, turn_with}
 use Rattle.dp_engine.specs.Refusals.{refusal_of_line}
 use Rattle.dp_engine.specs.Responses.{init_text, main_name, response_text}
-use Rattle.dp_engine.specs.Session.{State, program_of, written_between}
+use Rattle.dp_engine.specs.Session.{State, output_so_far, written_between}
 use Rattle.dp_engine.specs.inner.Sizes.{Fits}
 use Rattle.dp_engine.specs.inner.Turns.{IsSent, IsTurn}
 use Rattle.dp_engine.proofs.ResponseSizes.{init_fits}
-use Rattle.dp_engine.proofs.TurnLaws.{output_is}
 
 -- ---- the first packet
 
@@ -63,36 +62,47 @@ response_fits r (Err e) fits is = tt
 -- ---- answers
 
 -- what is sent of a turn is what is sent of the one that is asked for
-given_is : (before next : State) (bytes : List ℕ) (mode : StreamMode) (written : List ℕ) (made : Made)
-    (sent : Answer SessionEnd) → mode ≡ before.stdout
-    → written ≡ written_between before next → IsTurn (turn before bytes) next made → IsSent mode written made sent
-    → reply_of sent next ≡ answer before bytes
-unfolding answer
-given_is before next bytes mode written made sent m w t s =
-    let fresh : written ≡ written_between before (turn before bytes).next = w
-    ∙ ap (written_between before) t.next in λ i. record {
-      packets = (s.packets ∙ (λ j. to_ide (m j) (fresh j) ++ t.responds.before_it j ++ t.responds.text j ∷ [])) i;
+pub given_is : {E : Type 0} (before next : State) (asked : Turn) (mode : StreamMode) (shown : ℕ) (written : List ℕ)
+    (made : Made) (reply : Result (Answer SessionEnd) E) → mode ≡ before.stdout
+    → shown ≡ length (output_so_far before) → written ≡ drop shown (output_so_far next)
+    → IsTurn asked next made → IfOk reply (IsSent mode written made)
+    → IfOk reply (λ x. reply_of x next ≡ sent before asked)
+given_is before next asked mode shown written made (Ok given) m n w t s =
+    let fresh : written ≡ written_between before asked.next =
+    w ∙ ap (λ (k : ℕ). drop k (output_so_far next)) n ∙ ap (written_between before) t.next in λ i. record {
+      packets = (s.packets ∙ (λ j. to_ide (m j) (fresh j) ++ news (t.responds.before_it j)
+          ++ response_text (t.responds.response_is j) ∷ [])) i;
       program = (s.program ∙ (λ j. to_program (m j) (fresh j))) i;
       state = t.next i;
       ended = (s.ended ∙ t.responds.ends) i;
     }
+given_is before next asked mode shown written made (Err e) m n w t s = tt
 
-turn_read : (before next : State) (bytes : List ℕ) (line : Option Line) (made : Made) → line ≡ line_of bytes
-    → IsTurn (turn_of line (refusal_of_line before line) before) next made
+-- and what is reported of it is the turn
+pub report_is : (asked : Turn) (next : State) (made : Made) (report : Report) → IsTurn asked next made
+    → report.before ≡ made.before → report.response ≡ made.response → report.ended ≡ made.ended
+    → turn_with report next ≡ asked
+report_is asked next made report t b r e = λ i. record {
+  before = (b ∙ t.responds.before_it) i;
+  response = (r ∙ t.responds.response_is) i;
+  next = t.next i;
+  ended = (e ∙ t.responds.ends) i;
+}
+
+-- the turn of a line that was read is the one of its bytes
+pub turn_read : (before next : State) (bytes : List ℕ) (line : Option Line) (made : Made)
+    → line ≡ line_of bytes → IsTurn (turn_of line (refusal_of_line before line) before) next made
     → IsTurn (turn before bytes) next made
 unfolding turn
 turn_read before next bytes line made is t =
     subst (λ (l : Option Line). IsTurn (turn_of l (refusal_of_line before l) before) next made) is t
 
-pub answered : {E : Type 0} (before next : State) (bytes : List ℕ) (line : Option Line) (mode : StreamMode)
-    (first last : Program) (shown : ℕ) (written : List ℕ) (made : Made) (reply : Result (Answer SessionEnd) E)
-    → mode ≡ before.stdout → first ≡ program_of before → last ≡ program_of next → shown ≡ length first.output
-    → written ≡ drop shown last.output
-    → line ≡ line_of bytes → IsTurn (turn_of line (refusal_of_line before line) before) next made
-    → IfOk reply (IsSent mode written made) → IfOk reply (λ x. reply_of x next ≡ answer before bytes)
-answered before next bytes line mode first last shown written made (Ok x) m f l n w is t s =
-    given_is before next bytes mode written made x m
-    (w ∙ (λ i. drop ((n ∙ ap (λ (p : Program). length p.output) f ∙ ap length (sym (output_is before))) i)
-    ((ap (λ (p : Program). p.output) l ∙ sym (output_is next)) i)))
-    (turn_read before next bytes line made is t) s
-answered before next bytes line mode first last shown written made (Err e) m f l n w is t s = tt
+-- and so is what is answered to it
+pub answer_read : {E : Type 0} (before next : State) (bytes : List ℕ) (line : Option Line)
+    (reply : Result (Answer SessionEnd) E) → line ≡ line_of bytes
+    → IfOk reply (λ x. reply_of x next ≡ sent before (turn_of line (refusal_of_line before line) before))
+    → IfOk reply (λ x. reply_of x next ≡ answer before bytes)
+unfolding turn answer
+answer_read before next bytes line reply is t =
+    subst (λ (l : Option Line). IfOk reply (λ x. reply_of x next ≡ sent before (turn_of l
+    (refusal_of_line before l) before))) is t

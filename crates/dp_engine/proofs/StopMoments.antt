@@ -1,12 +1,16 @@
--- A stop is a moment of the program.
-use Rattle.std.proofs.Common.{◌≡◌, ℕ, zero, suc, ◌+◌, ◌≤◌, subst, Bool, true, false, cond, List, [], ◌∷◌, ◌++◌, drop, Some, refl, arith}
-use Rattle.std.specs.Prelude.{slice_get}
+-- A stop is a moment of the program, and whether it is the very next one.
+use Rattle.std.proofs.Common.{◌≡◌, ℕ, zero, suc, ◌+◌, ◌<◌, ◌≤◌, subst, Bool, true, false, cond, ◌||◌, List, [], ◌∷◌, ◌++◌, drop, Option, Some, None, refl, sym, ap, ◌∙◌, arith}
+use Rattle.std.proofs.lemmas.Bool.Decides.{nat_tests}
+use Rattle.std.specs.Option.{option_map_or}
+use Rattle.std.specs.Prelude.{◌==◌, slice_get}
 use Rattle.std.specs.List.{position_from}
 use Rattle.dp_break.specs.declared.breakpoint.Breakpoint.{Breakpoint}
-use Rattle.dp_break.specs.StopRule.{Moments, Reached, each_from, reached, stop_above}
+use Rattle.dp_break.specs.StopRule.{Moments, Reached, each_from, found, held_after, one_stops, reached, stop_above}
+use Rattle.dp_break.proofs.CountLaws.{found-stop}
 use Rattle.dp_state.specs.declared.moments.Moment.{Moment}
 use Rattle.dp_state.specs.declared.state.State.{State}
 use Rattle.dp_tree.specs.declared.bundle.Bundle.{Bundle}
+use Rattle.dp_engine.proofs.Lists.{drop-at}
 
 -- a first element that passes is there
 place_is_there : {A : Type 0} (test : Reached A → Bool) (i : ℕ) (past xs : List A) (j : ℕ)
@@ -40,3 +44,51 @@ pub stop_is_there : (mode : Moment → Bool) (bundle : Bundle) (held : List Brea
 stop_is_there mode bundle held n moments stop e =
     let there = place_is_there _ (n + 1) [] (drop n moments) stop e in
     (n + there.0, there.1, omega (arith, there.2), omega arith, slice_get_drop n moments there.0 there.1 there.3)
+
+-- ---- the very next moment
+
+same_number : (n : ℕ) → (n + 1 == n + 1) ≡ true
+same_number n = grind (arith, nat_tests)
+
+later_number : (stop n : ℕ) → n + 1 < stop → (stop == n + 1) ≡ false
+later_number stop n later = grind (arith, nat_tests)
+
+module _ (mode : Moment → Bool) (bundle : Bundle) (n : ℕ) (moments : Moments) (held : List Breakpoint)
+    (at : Moment × State) (is : slice_get moments n ≡ Some at) where
+  abbrev left : List Breakpoint
+  left = held_after bundle (at ∷ []) held
+
+  abbrev here : Bool
+  here = mode at.0 || one_stops bundle held [] at
+
+  -- what is found past n is there, or past that
+  pub found_next : found mode bundle held n (drop n moments)
+      ≡ cond here (Some (n + 1), left) (found mode bundle left (n + 1) (drop (n + 1) moments))
+  found_next =
+      let more : suc n ≡ n + 1 = omega arith in
+      ap (found mode bundle held n) (drop-at n moments at is)
+      ∙ ap (λ (k : ℕ). cond here (Some (n + 1), left) (found mode bundle left (n + 1) (drop k moments))) more
+
+  abbrev is_next : Option ℕ → Bool
+  is_next stop = option_map_or (λ s. s == n + 1) stop false
+
+  -- a stop past it is another
+  stops_later : (stop : Option ℕ) → stop_above mode bundle left (n + 1) moments ≡ stop → is_next stop ≡ false
+  stops_later None e = refl
+  stops_later (Some stop) e =
+      let there = stop_is_there mode bundle left (n + 1) moments stop e in
+      let later : n + 1 < stop = omega (arith, there.2, there.3) in later_number stop n later
+
+  stop_is : (b : Bool) → b ≡ here → stop_above mode bundle held n moments
+      ≡ (cond b (Some (n + 1), left) (found mode bundle left (n + 1) (drop (n + 1) moments))).0
+  stop_is b e =
+      sym (found-stop bundle mode held n (drop n moments))
+      ∙ ap (λ (f : Option ℕ × List Breakpoint). f.0) (found_next
+      ∙ ap (λ (c : Bool). cond c (Some (n + 1), left) (found mode bundle left (n + 1) (drop (n + 1) moments))) (sym e))
+
+  -- it is the stop where the mode or a breakpoint stops there
+  pub next_stop : (b : Bool) → b ≡ here → b ≡ is_next (stop_above mode bundle held n moments)
+  next_stop true e = sym (ap is_next (stop_is true e) ∙ same_number n)
+  next_stop false e =
+      sym (ap is_next (stop_is false e ∙ found-stop bundle mode left (n + 1) (drop (n + 1) moments))
+      ∙ stops_later _ refl)

@@ -29,7 +29,8 @@ use Rattle.dp_command.specs.declared.line.Line.{Line}
 use Rattle.dp_command.specs.declared.names.CommandName.{CommandName}
 use Rattle.dp_command.specs.Names.{name_of}
 use Rattle.dp_command.specs.Refusals.{admission_refusal, code_of, coded, fits_row, holds_of, id_of}
-use Rattle.dp_engine.specs.NextStop.{stop_past, table_past}
+use Rattle.dp_engine.specs.NextStop.{every, stop_past, table_past}
+use Rattle.dp_engine.specs.Passes.{passed_on}
 use Rattle.dp_engine.specs.Stops.{stops}
 use Rattle.dp_engine.proofs.StopMoments.{stop_is_there}
 use Rattle.dp_features.specs.Features.{Features, resolves}
@@ -46,6 +47,7 @@ use Rattle.dp_packet.specs.declared.packet.Packet.TheVariants as packet
 use Rattle.dp_packet.specs.Packets.{HasMessage}
 use Rattle.dp_packet.specs.Parts.{Text}
 use Rattle.dp_packet.specs.Text.{text}
+use Rattle.dp_state.specs.declared.moments.Moment.{Moment}
 use Rattle.dp_state.specs.declared.moments.Outcome.{Outcome}
 use Rattle.dp_state.specs.declared.state.State.{State as Program_state}
 use Rattle.dp_state.specs.States.{IsOf, file_of, opening as first_state}
@@ -62,7 +64,7 @@ use Rattle.dp_engine.specs.declared.states.Phase.TheVariants as phase
 use Rattle.dp_engine.specs.declared.states.Position.{Position}
 use Rattle.dp_engine.specs.declared.states.Position.TheVariants.{Starting, Break, Stopping}
 use Rattle.dp_engine.specs.declared.replies.Turn.{Turn as Made}
-use Rattle.dp_engine.specs.Answers.{Turn, breakpoints_done, end_by_stop, gone_on, in_packet, kept_if, moved, news, performed, refused, response_in, shown, turn_by_command, turn_of, with_write, written}
+use Rattle.dp_engine.specs.Answers.{Turn, breakpoints_done, end_by_stop, gone_on, in_packet, kept_if, moved, performed, refused, response_in, shown, turn_by_command, turn_of, with_write, written}
 use Rattle.dp_engine.specs.Refusals.{of_command, own_tests, refusal_of_line, row_tests, tests}
 use Rattle.dp_engine.specs.Responses.{fault_response, response as response_of, response_text}
 use Rattle.dp_engine.specs.Session.{State, here, moments_by, moments_so_far, output_by, output_so_far, program_by, program_of, steps_between, steps_left, unwritten, whole_output}
@@ -215,7 +217,7 @@ own_refused state next name id r code made e n h =
     (turns (refused name id code state) next made h n)
 
 -- a response that is the one asked for, behind what is asked for, after which the session goes on
-responds_all : {E : Type 0} (asked : Turn) (next : State) (before : List Text) (response : Response)
+responds_all : {E : Type 0} (asked : Turn) (next : State) (before : Option Notify) (response : Response)
     (made : Result Made E)
     → IfOk made (Tells before response None) → before ≡ asked.before → response ≡ asked.response → next ≡ asked.next
     → None ≡ asked.ended
@@ -223,7 +225,7 @@ responds_all : {E : Type 0} (asked : Turn) (next : State) (before : List Text) (
 responds_all asked next before response made t b r n e =
     turns asked next made (subst (λ (x : Option SessionEnd). IfOk made (Tells asked.before asked.response x)) e
     (subst (λ (x : Response). IfOk made (Tells asked.before x None)) r
-    (subst (λ (x : List Text). IfOk made (Tells x response None)) b t))) n
+    (subst (λ (x : Option Notify). IfOk made (Tells x response None)) b t))) n
 
 -- a program whose files have names has a file
 pub has_files : (bundle : Bundle) → AreFileNames (map (λ f. f.name) bundle.files) → 0 < length bundle.files
@@ -252,12 +254,12 @@ pub breakpoints_respond : {E : Type 0} (state next : State) (name id : Text) (r 
     → next ≡ record state {
       breaks = breakpoint_table (resolves state.features) state.bundle (here state) r state.breaks;
     }
-    → IfOk made (Tells (news notice) response None) → IfOk made (IsTurn (answered name id (Breakpoints r) state) next)
+    → IfOk made (Tells notice response None) → IfOk made (IsTurn (answered name id (Breakpoints r) state) next)
 breakpoints_respond state next name id r notice response made e told is short n t =
     same_turn next _ _ made
     (sym (ap (λ (c : Option ErrorCode). answered_by c name id (Breakpoints r) state) (first_for
     (breakpoint_refusal (resolves state.features) state.bundle (here state) state.breaks r) ∙ e)))
-    (responds_all (breakpoints_done name id r state) next (news notice) response made t (ap news told)
+    (responds_all (breakpoints_done name id r state) next notice response made t told
     (in_packet_is name id response short ∙ ap (in_packet name id) is) n refl)
 
 -- done where the program stands
@@ -269,7 +271,7 @@ pub breakpoints_turn : {E : Type 0} (state : State) (program : Program_state) (f
     → response ≡ breakpoint_response (resolves state.features) state.bundle name id state.breaks r
     → length (text (packet.Response response)) ≤ packet_limit
     → left ≡ breakpoint_table (resolves state.features) state.bundle file r state.breaks
-    → IfOk made (Tells (news notice) response None)
+    → IfOk made (Tells notice response None)
     → IfOk made (IsTurn (answered name id (Breakpoints r) state) (record state { breaks = left }))
 breakpoints_turn state program file left name id r notice response made is f e told answer short n t =
     let there : here state ≡ file = sym (f ∙ ap file_of is) in
@@ -299,7 +301,7 @@ view_responds state name id r response made e t =
     same_turn state _ _ made
     (sym (ap (λ (c : Option ErrorCode). answered_by c name id (Look r) state) (first_for
     (view_refusal state.bundle (here state) state.features (program_of state) name id r) ∙ ap code_in e)))
-    (responds_all (shown name id r state) state [] response made t refl (ap (response_in name id) (sym e)) refl refl)
+    (responds_all (shown name id r state) state None response made t refl (ap (response_in name id) (sym e)) refl refl)
 
 pub view_refused : (state : State) (name id : Text) (r : LookRequest) (code : ErrorCode)
     → view_response state.bundle (here state) state.features (program_of state) name id r ≡ Err code
@@ -326,7 +328,7 @@ write_responds state next name id r w response made e asked is t =
     same_turn next _ _ made
     (sym (ap (λ (c : Option ErrorCode). answered_by c name id (Write r) state) (first_for
     (write_refusal state.bundle state.features (program_of state) name id r) ∙ ap code_written e)))
-    (responds_all (written name id r state) next [] response made t refl (ap (response_in name id) (sym e))
+    (responds_all (written name id r state) next None response made t refl (ap (response_in name id) (sym e))
     (is ∙ (λ i. kept_if (sym e i) (sym asked i) state)) refl)
 
 -- what the program has written so far is what has been written in its state
@@ -439,16 +441,32 @@ module _ (bundle : Bundle) (bound : ℕ) (writes : List NumberedWrite) (moment :
     -- to the end
     pub goes_out : (end : Outcome) (left : Table) → stop_from depth ≡ None → end ≡ outcome bundle bound writes
         → left ≡ table_from depth
-        → known bundle bound writes moment (Stopping end) features stdout left failed ≡ gone_on mode state
+        → known bundle bound writes 0 (Stopping end) features stdout left failed ≡ gone_on mode state
     goes_out end left stop ends is =
-        ap (λ (o : Outcome). known bundle bound writes moment (Stopping o) features stdout left failed) ends
+        ap (λ (o : Outcome). known bundle bound writes 0 (Stopping o) features stdout left failed) ends
         ∙ (λ i. moved (record state { breaks = (is ∙ ap table_from deep) i }) ((sym stop ∙ ap stop_from deep) i))
 
-    -- a stop is at a later moment
-    pub comes_later : (number : ℕ) → stop_from depth ≡ Some number → moment < number
-    comes_later number stop =
-        let there = stop_is_there (stops mode depth) bundle breaks.held moment
-        (program_trace bundle bound writes).moments number stop in omega (arith, there.2, there.3)
+  -- a stop is at a later moment
+  pub comes_later : (test : Moment → Bool) (number : ℕ)
+      → stop_past test bundle bound writes breaks.held moment ≡ Some number → moment < number
+  comes_later test number stop =
+      let there = stop_is_there test bundle breaks.held moment (program_trace bundle bound writes).moments number stop
+      in
+      omega (arith, there.2, there.3)
+
+  -- one moment comes
+  pub passes_to : (number : ℕ) (left : Table) → stop_past every bundle bound writes breaks.held moment ≡ Some number
+      → left ≡ table_past every bundle bound writes breaks moment
+      → known bundle bound writes number Break features stdout left failed ≡ passed_on state
+  passes_to number left stop is = λ i. moved (record state { breaks = is i }) (sym stop i)
+
+  -- or the end
+  pub passes_out : (end : Outcome) (left : Table) → stop_past every bundle bound writes breaks.held moment ≡ None
+      → end ≡ outcome bundle bound writes → left ≡ table_past every bundle bound writes breaks moment
+      → known bundle bound writes 0 (Stopping end) features stdout left failed ≡ passed_on state
+  passes_out end left stop ends is =
+      ap (λ (o : Outcome). known bundle bound writes 0 (Stopping o) features stdout left failed) ends
+      ∙ (λ i. moved (record state { breaks = is i }) (sym stop i))
 
   -- the steps on the way
   pub counts_to : (before after number : ℕ) (left : Table) → phase_of position ≢ phase.Stopping → moment < number
@@ -459,8 +477,7 @@ module _ (bundle : Bundle) (bound : ℕ) (writes : List NumberedWrite) (moment :
   pub counts_out : (before after : ℕ) (end : Outcome) (left : Table) → phase_of position ≢ phase.Stopping
       → StandsFor bundle bound writes moment machine
       → after + moment ≡ before + length (program_trace bundle bound writes).moments
-      → after ≡ before + steps_between state (known bundle bound writes moment (Stopping end) features stdout left
-      failed)
+      → after ≡ before + steps_between state (known bundle bound writes 0 (Stopping end) features stdout left failed)
   counts_out before after end left n stands counted =
       omega (arith, moments_are n, within bundle bound writes moment machine stands, counted)
 

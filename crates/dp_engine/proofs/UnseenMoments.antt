@@ -20,7 +20,7 @@ use Rattle.dp_state.specs.declared.state.State.{State}
 use Rattle.dp_actions.specs.declared.signal.Signal.{Signal}
 use Rattle.dp_meaning.specs.declared.writes.NumberedWrite.{NumberedWrite}
 use Rattle.dp_meaning.specs.Trace.{Trace, program_trace}
-use Rattle.dp_quiet.specs.Quiet.{is_free}
+use Rattle.dp_quiet.specs.Quiet.{AreLoud, is_free, is_unwatched}
 use Rattle.dp_step.specs.declared.machine.Machine.{Machine}
 use Rattle.dp_step.specs.declared.machine.Progress.{Progress}
 use Rattle.dp_step.specs.Past.{ArePassed, GoesPast, IsPassed}
@@ -32,7 +32,7 @@ use Rattle.dp_engine.proofs.MachineStops.{IsOnWay, IsPast}
 
 -- ---- breakpoints that are on some lines
 
-module _ (lines : List ℕ) where
+module _ (lines : List ℕ) (calls : Bool) where
   apart : (given line : ℕ) → not (is_free lines given) ≡ true → is_free lines line ≡ true → (b : Bool)
       → (given == line) ≡ b → b ≡ false
   apart given line on free true is =
@@ -50,35 +50,46 @@ module _ (lines : List ℕ) where
   on-line None at covered free = absurd (cc)
   on-line (Some given) at covered free = apart given at covered free (given == at) refl
 
-  off-place : (kind : BreakKind) (file function : Bool) (line : Option ℕ) (at : ℕ)
-      → (is_of_function kind || option_map_or (λ l. not (is_free lines l)) line false) ≡ true
-      → is_free lines at ≡ true
-      → (awaits kind moment.Place && file && (if is_of_function kind then function else is_met_by line at)) ≡ false
-  off-place Line file function line at covered free = and-off file _ (on-line line at covered free)
-  off-place Call file function line at covered free = refl
-  off-place Return file function line at covered free = refl
-  off-place Conditional file function line at covered free = and-off file _ (on-line line at covered free)
+  on-function : calls ≡ true → not calls ≡ true → ⊥
+  on-function passed watched = let no : not true ≡ true = ap not (sym passed) ∙ watched in cc
+
+  off-place : (kind : BreakKind) (moment : MomentKind) (file function : Bool) (line : Option ℕ) (at : ℕ)
+      → (if is_of_function kind then not calls else option_map_or (λ l. not (is_free lines l)) line false) ≡ true
+      → is_unwatched lines calls moment at ≡ true
+      → (awaits kind moment && file && (if is_of_function kind then function else is_met_by line at)) ≡ false
+  off-place Line moment.Place file function line at covered free = and-off file _ (on-line line at covered free)
+  off-place Line moment.Enter file function line at covered free = refl
+  off-place Line moment.Leave file function line at covered free = refl
+  off-place Call moment.Place file function line at covered free = refl
+  off-place Call moment.Enter file function line at covered free = absurd (on-function free covered)
+  off-place Call moment.Leave file function line at covered free = refl
+  off-place Return moment.Place file function line at covered free = refl
+  off-place Return moment.Enter file function line at covered free = refl
+  off-place Return moment.Leave file function line at covered free = absurd (on-function free covered)
+  off-place Conditional moment.Place file function line at covered free =
+      and-off file _ (on-line line at covered free)
+  off-place Conditional moment.Enter file function line at covered free = refl
+  off-place Conditional moment.Leave file function line at covered free = refl
 
   no-hit : (enabled place holds : Bool) → place ≡ false → (enabled && place && holds) ≡ false
   no-hit true place holds e = rw e refl
   no-hit false place holds e = refl
 
-  unhit : (bundle : Bundle) (at : Moment × State) (b : Breakpoint) → IsPassed lines at.0 → is_covered lines b ≡ true
+  unhit : (bundle : Bundle) (at : Moment × State) (b : Breakpoint) → IsPassed lines calls at.0
+      → is_covered lines calls b ≡ true
       → hits bundle at b ≡ false
   unhit bundle at b passed covered = cases b.enabled refl
     where
       cases : (enabled : Bool) → b.enabled ≡ enabled → hits bundle at b ≡ false
       cases false is = rw is refl
       cases true is =
-          let covered : (is_of_function b.kind || option_map_or (λ l. not (is_free lines l)) b.line false) ≡ true =
-          sym (ap (λ e. not e || (is_of_function b.kind || option_map_or (λ l. not (is_free lines l)) b.line false)) is)
-          ∙ covered in
+          let covered : (if is_of_function b.kind then not calls
+          else option_map_or (λ l. not (is_free lines l)) b.line false) ≡ true =
+          sym (ap (λ e. not e || (if is_of_function b.kind then not calls
+          else option_map_or (λ l. not (is_free lines l)) b.line false)) is) ∙ covered in
           let off : is_place_of b at.0 ≡ false =
-          ap (λ (kind : MomentKind). awaits b.kind kind && is_met_by b.file at.0.file
-          && (if is_of_function b.kind then is_named_by b.function at.0.function
-          else is_met_by b.line at.0.line)) passed.0
-          ∙ off-place b.kind (is_met_by b.file at.0.file) (is_named_by b.function at.0.function) b.line at.0.line
-          covered passed.1 in
+          off-place b.kind at.0.kind (is_met_by b.file at.0.file) (is_named_by b.function at.0.function) b.line
+          at.0.line covered passed in
           no-hit b.enabled (is_place_of b at.0) (option_map_or (λ e. is_true_in bundle e at.1) b.parsed true) off
 
   both : (a b : Bool) → (a && b) ≡ true → (a ≡ true) × (b ≡ true)
@@ -86,16 +97,17 @@ module _ (lines : List ℕ) where
   both true false e = absurd (cc)
   both false b e = absurd (cc)
 
-  none-hits : (bundle : Bundle) (at : Moment × State) (held : List Breakpoint) → IsPassed lines at.0
-      → are_covered lines held ≡ true → list_any (hits bundle at) held ≡ false
+  none-hits : (bundle : Bundle) (at : Moment × State) (held : List Breakpoint) → IsPassed lines calls at.0
+      → are_covered lines calls held ≡ true → list_any (hits bundle at) held ≡ false
   none-hits bundle at [] passed covered = refl
   none-hits bundle at (b ∷ held) passed covered =
-      let parts = both (is_covered lines b) (are_covered lines held) covered in
+      let parts = both (is_covered lines calls b) (are_covered lines calls held) covered in
       ap (λ (t : Bool). t || list_any (hits bundle at) held) (unhit bundle at b passed parts.0)
       ∙ none-hits bundle at held passed parts.1
 
   unseen : (mode : Moment → Bool) → ((moment : Moment) → mode moment ≡ false) → (bundle : Bundle)
-      (held : List Breakpoint) → are_covered lines held ≡ true → (t : Trace Signal) (k n : ℕ) → ArePassed lines t n k
+      (held : List Breakpoint) → are_covered lines calls held ≡ true → (t : Trace Signal) (k n : ℕ)
+      → ArePassed lines calls t n k
       → AreUnseen mode bundle held t n k
   unseen mode off bundle held covered t zero n passed = tt
   unseen mode off bundle held covered t (suc k) n passed = (
@@ -108,8 +120,9 @@ module _ (lines : List ℕ) where
   )
 
   pub goes-unseen : (mode : Moment → Bool) → ((moment : Moment) → mode moment ≡ false) → (bundle : Bundle) (bound : ℕ)
-      (writes : List NumberedWrite) (held : List Breakpoint) → are_covered lines held ≡ true → (n : ℕ) (came : Progress)
-      (m : Machine) (begun steps : ℕ) → GoesPast lines bundle bound writes n came m begun steps
+      (writes : List NumberedWrite) (held : List Breakpoint) → are_covered lines calls held ≡ true
+      → (n : ℕ) (came : Progress)
+      (m : Machine) (begun steps : ℕ) → GoesPast lines calls bundle bound writes n came m begun steps
       → GoesUnseen mode bundle bound writes held n came m begun steps
   goes-unseen mode off bundle bound writes held covered n came m begun steps goes = record {
     over = goes.over;
@@ -117,6 +130,14 @@ module _ (lines : List ℕ) where
     goes_on = goes.goes_on;
     counted = goes.counted;
   }
+
+-- the names of loud functions that are held are those of the program, where they were looked for in that of the machine
+pub look-on : (bundle : Bundle) (bound : ℕ) (writes : List NumberedWrite) (n : ℕ) (m : Machine) (lines : List ℕ)
+    (old new : Option (List (List ℕ))) → StandsFor bundle bound writes n m → AreLoud lines bundle old
+    → (AreLoud lines m.bundle.now old → AreLoud lines m.bundle.now new) → AreLoud lines bundle new
+look-on bundle bound writes n m lines old new stands before look =
+    subst (λ (b : Bundle). AreLoud lines b new) stands.same_bundle
+    (look (subst (λ (b : Bundle). AreLoud lines b old) (sym stands.same_bundle) before))
 
 -- a step passes none
 pub steps-unseen : (mode : Moment → Bool) (bundle : Bundle) (bound : ℕ) (writes : List NumberedWrite)

@@ -37,6 +37,7 @@ use Rattle.dp_view_commands.specs.Views.{view_response}
 use Rattle.dp_wire.specs.Frames.{packet_limit}
 use Rattle.dp_write_commands.specs.Requests.{requested_write}
 use Rattle.dp_write_commands.specs.Responses.{write_response}
+use Rattle.dp_engine.specs.declared.session.Report.{Report}
 use Rattle.dp_engine.specs.declared.session.SessionEnd.{SessionEnd}
 use Rattle.dp_engine.specs.declared.session.SessionEnd.TheVariants.{Finished, Killed, Detached}
 use Rattle.dp_engine.specs.declared.states.Phase.{Phase}
@@ -48,17 +49,17 @@ use Rattle.dp_engine.specs.Session.{State, breaks_of, here, outcome_of, program_
 use Rattle.dp_engine.specs.Wishes.{wishes_of}
 use Rattle.dp_engine.specs.States.{phase_name, reason_name, reason_of}
 
--- What a command leads to: the packets that go before its response, the response, what the session
--- knows then, and how it has ended, if it has.
+-- What a command leads to: the news that go before its response, the response, what the session
+-- knows then, and how it has ended, if it has. Nothing of it is text yet.
 pub record Turn : Type 0 where
-  pub before : List Text
+  pub before : Option Notify
   pub response : Response
   pub next : State
   pub ended : Option SessionEnd
 
 -- a response that ends nothing
 abbrev pub goes_on : Response → State → Turn
-goes_on r next = record { before = []; response = r; next = next; ended = None }
+goes_on r next = record { before = None; response = r; next = next; ended = None }
 
 -- ---- going on
 
@@ -66,9 +67,10 @@ goes_on r next = record { before = []; response = r; next = next; ended = None }
 abbrev pub at_stop : State → ℕ → State
 at_stop state n = record state { moment = n; phase = Break; reason = reason.Ok }
 
--- the program has come to its end
+-- the program has come to its end: no moment is the current one
 abbrev pub at_end : State → State
-at_end state = record state { phase = Stopping; reason = reason_of (outcome_of state) }
+at_end state =
+    record state { moment = 0; phase = Stopping; reason = reason_of (outcome_of state) }
 
 -- where the program comes to when it goes on
 abbrev pub moved : State → Option ℕ → State
@@ -97,7 +99,7 @@ continued command id mode Starting state = advanced command id mode state
 continued command id mode Break state = advanced command id mode state
 continued command id mode Stopping state =
     record {
-      before = [];
+      before = None;
       response = stopped_response command id;
       next = state;
       ended = Some (Finished (outcome_of state));
@@ -113,7 +115,7 @@ end_by_stop Stopping state = Finished (outcome_of state)
 
 abbrev pub stopped : Text → Text → State → Turn
 stopped command id state = record {
-  before = [];
+  before = None;
   response = stopped_response command id;
   next = state;
   ended = Some (end_by_stop state.phase state);
@@ -122,7 +124,7 @@ stopped command id state = record {
 abbrev pub detached : Text → Text → State → Turn
 detached command id state =
     record {
-      before = [];
+      before = None;
       response = status_response command id (codes "stopping") (codes "ok");
       next = state;
       ended = Some Detached;
@@ -166,19 +168,13 @@ in_packet command id r =
     if nat_le (length (response_text r)) packet_limit then r
     else response command id [] body.Nothing
 
--- news, if a packet has room for them; those of a breakpoint always find room
-abbrev pub news : Option Notify → List Text
-news None = []
-news (Some n) = if nat_le (length (notice_text n)) packet_limit then notice_text n ∷ [] else []
-
 -- the breakpoints are as the command makes them, and the IDE is told of one that moved
 abbrev pub breakpoints_done : Text → Text → BreakpointRequest → State → Turn
 breakpoints_done command id r state =
     let resolve = resolves state.features in
     record {
       before =
-          news (breakpoint_notice (wishes_of state.features) state.bundle (here state)
-          state.breaks r);
+          breakpoint_notice (wishes_of state.features) state.bundle (here state) state.breaks r;
       response =
           in_packet command id (breakpoint_response resolve state.bundle command id state.breaks r);
       next =
@@ -282,15 +278,29 @@ to_program Disable output = output
 to_program Copy output = output
 to_program Redirect output = []
 
--- the output that the program wrote in this turn goes out first, and the response last
+-- news, if a packet has room for them; those of a breakpoint always find room
+abbrev pub news : Option Notify → List Text
+news None = []
+news (Some n) = if nat_le (length (notice_text n)) packet_limit then notice_text n ∷ [] else []
+
+-- the output that the program wrote in this turn goes out first, then news, and the response last
 abbrev pub sent : State → Turn → Reply State SessionEnd
 sent state taken = record {
   packets =
-      to_ide state.stdout (written_between state taken.next) ++ taken.before
+      to_ide state.stdout (written_between state taken.next) ++ news taken.before
       ++ response_text taken.response ∷ [];
   program = to_program state.stdout (written_between state taken.next);
   state = taken.next;
   ended = taken.ended;
+}
+
+-- a report of a command, with what the session knows then, as a turn
+abbrev pub turn_with : Report → State → Turn
+turn_with report next = record {
+  before = report.before;
+  response = report.response;
+  next = next;
+  ended = report.ended;
 }
 
 -- the answer to a command

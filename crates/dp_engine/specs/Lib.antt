@@ -6,6 +6,7 @@ pub mod Wishes
 pub mod Responses
 pub mod Refusals
 pub mod Answers
+pub mod Passes
 pub mod Refused
 pub mod Served
 pub mod Service

@@ -52,6 +52,10 @@ ending_of r = ending_after r.ended r.state
 abbrev pub ending_with : Bundle → ℕ → List (List ℕ) → Option Outcome
 ending_with bundle bound commands = ending_of (answers_to bundle bound commands)
 
+-- the writes that were accepted
+abbrev pub writes_with : Bundle → ℕ → List (List ℕ) → List NumberedWrite
+writes_with bundle bound commands = (answers_to bundle bound commands).state.writes
+
 -- ---- with the commands among these bytes
 
 abbrev pub answers : Bundle → ℕ → List ℕ → Reply State SessionEnd
@@ -66,6 +70,5 @@ own bundle bound bytes = own_with bundle bound (commands_in bytes)
 abbrev pub ending : Bundle → ℕ → List ℕ → Option Outcome
 ending bundle bound bytes = ending_with bundle bound (commands_in bytes)
 
--- the writes that were accepted
 abbrev pub writes : Bundle → ℕ → List ℕ → List NumberedWrite
-writes bundle bound bytes = (answers bundle bound bytes).state.writes
+writes bundle bound bytes = writes_with bundle bound (commands_in bytes)

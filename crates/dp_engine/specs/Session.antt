@@ -21,9 +21,9 @@ use Rattle.dp_engine.specs.declared.states.Reason.{Reason}
 use Rattle.dp_engine.specs.declared.states.Reason.TheVariants as reason
 
 -- The program and the bound of its moments, the writes that were accepted, the number of the
--- current moment (0 before the first), the state and the reason last given, the features, where
--- output goes, the breakpoints that are held, and whether memory has run out: it answers nothing
--- more then.
+-- current moment (0 before the first, and once the program has ended), the state and the reason
+-- last given, the features, where output goes, the breakpoints that are held, and whether memory
+-- has run out: it answers nothing more then.
 pub record State : Type 0 where
   pub bundle : Bundle
   pub bound : ℕ

@@ -3,7 +3,7 @@
 ghost use Rattle.std.specs.Prelude.{◌≡◌, ◌+◌, ◌<◌, ◌∷◌, ◌||◌, ℕ, List, [], length, None, true, false, IfOk, OnOk};
 ghost use Rattle.std.specs.List.{list_any};
 ghost use Rattle.dp_break.specs.StopRule.{held_after, one_stops};
-ghost use Rattle.dp_engine.specs.NextStop.{Reaches, reached_moment, stop_past, table_past};
+ghost use Rattle.dp_engine.specs.NextStop.{PassesOne, Reaches, reached_moment, stop_past, table_past};
 ghost use Rattle.dp_engine.specs.Stops.{stops};
 ghost use Rattle.dp_meaning.specs.declared.writes.NumberedWrite.{NumberedWrite as AnyWrite};
 ghost use Rattle.dp_state.specs.declared.moments.Moment.{Moment as AnyMoment};
@@ -11,8 +11,8 @@ ghost use Rattle.dp_state.specs.States.{IsOf};
 ghost use Rattle.dp_step.specs.Stands.{StandsFor};
 ghost use Rattle.dp_tree.specs.declared.bundle.Bundle.{Bundle as SomeBundle};
 
-use crate::past::go_on;
-use crate::reached::Reached;
+use crate::past::{MOST_LINES, due_by, go_on, lines_of, look};
+use crate::reached::{Passed, Reached};
 use crate::stops::is_stop;
 use dp_break::{Breakpoint, Breaks};
 use dp_command::Continuation;
@@ -39,6 +39,40 @@ fn pass(
 {
     let stop = breaks.pass(bundle, moment, program)?;
     Ok(is_stop(mode, depth, moment) || stop)
+}
+
+/// Passes one moment: where a machine comes to that goes on from the moment at which it stands to the very next one, or
+/// to the end. The breakpoints have the hits of that moment then, and it counts one step, none for the end. A command
+/// that went on from this depth, or a breakpoint, may stop there.
+///
+/// Once memory ran out nothing is said of the machine and of the breakpoints.
+pub fn pass_one<L: Ledger>(
+    machine: &mut Machine,
+    bundle: &Bundle,
+    depth: u32,
+    mode: Continuation,
+    breaks: &mut Breaks,
+    steps: &mut Steps<L>,
+) -> Result<Passed, Memory>
+    ensures { (bound : ℕ) (writes : List AnyWrite) (n : ℕ) → StandsFor bundle.now bound writes n machine.old
+        → IfOk result (λ passed. PassesOne (stops mode depth) bundle.now bound writes breaks.old breaks.new n passed
+        machine.new steps.old steps.new) }
+{
+    let progress = machine.step(steps)?;
+    match progress {
+        Progress::At(moment) => {
+            let stops = pass(bundle, mode, depth, &moment, machine.state(), breaks)?;
+            let reached = Reached::Moment {
+                number: moment.number,
+                depth: moment.depth,
+            };
+            Ok(Passed { reached, stops })
+        }
+        Progress::Ended(outcome) => Ok(Passed {
+            reached: Reached::End(outcome),
+            stops: false,
+        }),
+    }
 }
 
 /// Where a machine comes to that goes on from the moment at which it stands, where it is this deep, and what is held of
@@ -91,8 +125,14 @@ fn go_on_watched<L: Ledger>(
     ensures counted { (bound : ℕ) (writes : List AnyWrite) (n : ℕ) → StandsFor bundle.now bound writes n machine.old
         → IfOk result (λ reached. steps.new + n ≡ steps.old + reached_moment bundle.now bound writes reached) }
 {
-    for _ in 0..u64::MAX {
-        match go_on(machine, mode, breaks, steps)? {
+    let mut all = [0; MOST_LINES];
+    let count = lines_of(breaks.list(), &mut all);
+    let lines = &all[..count];
+    let due = due_by(bundle, breaks.list());
+    let mut loud = None;
+    for passed in 0..u64::MAX {
+        look(machine, lines, passed == due, &mut loud)?;
+        match go_on(machine, mode, breaks, lines, &loud, steps)? {
             Progress::At(moment) => {
                 if pass(bundle, mode, depth, &moment, machine.state(), breaks)? {
                     return Ok(Reached::Moment {

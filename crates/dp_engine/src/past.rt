@@ -1,44 +1,84 @@
 //! The moments at which nobody looks: neither the command nor a breakpoint can stop there.
 
-ghost use Rattle.std.specs.Prelude.{◌≡◌, ◌≤◌, ◌+◌, ℕ, List, IfOk, false, true};
+ghost use Rattle.std.specs.Prelude.{◌≡◌, ◌≤◌, ◌+◌, ℕ, List, IfOk, OnOk, false, true};
 ghost use Rattle.dp_engine.specs.Stops.{stops};
 ghost use Rattle.dp_engine.specs.inner.Unseen.{GoesUnseen, are_covered, is_covered};
 ghost use Rattle.dp_meaning.specs.declared.writes.NumberedWrite.{NumberedWrite as AnyWrite};
-ghost use Rattle.dp_quiet.specs.Quiet.{is_free as is_free_of};
+ghost use Rattle.dp_quiet.specs.Quiet.{AreLoud, is_free as is_free_of};
 ghost use Rattle.dp_state.specs.declared.moments.Moment.{Moment as AnyMoment};
 ghost use Rattle.dp_step.specs.Stands.{GoesOn, StandsFor, steps_of};
 ghost use Rattle.dp_tree.specs.declared.bundle.Bundle.{Bundle as SomeBundle};
 
 use dp_break::{Breakpoint, Breaks, is_of_function};
 use dp_command::Continuation;
+use dp_quiet::DeepNames;
 use dp_step::{Machine, Progress, Steps};
+use dp_tree::Bundle;
 use dp_value::Memory;
 use std::sync::ledger::Ledger;
 
 /// At most so many breakpoints on lines are looked for in statements.
-const MOST_LINES: usize = 16;
+pub(crate) const MOST_LINES: usize = 16;
+
+/// Where a program has at most so many functions, calls are looked at before a command passes its first moment.
+const FEW_FUNCTIONS: u64 = 8;
 
 /// A machine goes on to the next moment, or to the end. Where only breakpoints stop it, moments before a statement, a
-/// test or a binding may be passed that are on no line of an enabled breakpoint.
-pub(crate) fn go_on<L: Ledger>(
-    machine: &mut Machine,
+/// test or a binding may be passed that are on no line of an enabled breakpoint, and so may calls, where it is known
+/// which may not.
+pub(crate) fn go_on<'p, L: Ledger>(
+    machine: &mut Machine<'p>,
     mode: Continuation,
     breaks: &Breaks,
+    lines: &[u32],
+    loud: &Option<DeepNames<'p>>,
     steps: &mut Steps<L>,
 ) -> Result<Progress, Memory>
     ensures { (depth : ℕ) (bundle : SomeBundle) (bound : ℕ) (writes : List AnyWrite) (n : ℕ)
-        → StandsFor bundle bound writes n machine.old
+        → StandsFor bundle bound writes n machine.old → AreLoud lines.now bundle loud.now
         → IfOk result (λ progress. GoesUnseen (stops mode depth) bundle bound writes breaks.now.held n progress
         machine.new steps.old steps.new) }
 {
-    let held = breaks.list();
-    let mut all = [0; MOST_LINES];
-    let count = lines_of(held, &mut all);
-    let lines = &all[..count];
-    if are_seen(mode, lines, held) {
-        machine.go_past(lines, steps)
+    if are_seen(mode, lines, loud.is_some(), breaks.list()) {
+        machine.go_past(lines, loud.as_ref(), steps)
     } else {
         step_on(machine, steps)
+    }
+}
+
+/// Looks for the functions whose calls may not be passed, if it is time.
+pub(crate) fn look<'p>(
+    machine: &Machine<'p>,
+    lines: &[u32],
+    is_due: bool,
+    loud: &mut Option<DeepNames<'p>>,
+) -> Result<(), Memory>
+    ensures { AreLoud lines.now machine.now.bundle.now loud.old
+        → OnOk result (AreLoud lines.now machine.now.bundle.now loud.new) }
+{
+    if is_due {
+        *loud = Some(machine.loud_names(lines)?);
+    }
+    Ok(())
+}
+
+/// How many moments a command passes one by one before calls are looked at: none in a small program, and else some four
+/// for each function, so that the look costs no more than what was passed. Never where a breakpoint on a function is
+/// enabled.
+pub(crate) fn due_by(bundle: &Bundle, held: &[Breakpoint]) -> u64 {
+    for breakpoint in held {
+        if breakpoint.enabled && is_of_function(breakpoint.kind) {
+            return u64::MAX;
+        }
+    }
+    let mut count: u64 = 0;
+    for file in bundle.files.as_slice() {
+        count = count.saturating_add(file.tree.functions.as_slice().len() as u64);
+    }
+    if count <= FEW_FUNCTIONS {
+        0
+    } else {
+        count.saturating_mul(4)
     }
 }
 
@@ -53,13 +93,14 @@ fn step_on<L: Ledger>(machine: &mut Machine, steps: &mut Steps<L>) -> Result<Pro
     Ok(progress)
 }
 
-/// Whether only a breakpoint stops, and each that is enabled and on a line is on one of these.
-fn are_seen(mode: Continuation, lines: &[u32], held: &[Breakpoint]) -> bool
+/// Whether only a breakpoint stops, and each that is enabled is on one of these lines, or on a function where calls are
+/// not passed.
+fn are_seen(mode: Continuation, lines: &[u32], calls: bool, held: &[Breakpoint]) -> bool
     ensures mode { result ≡ true → (depth : ℕ) (moment : AnyMoment) → stops mode depth moment ≡ false }
-    ensures covered { result ≡ true → are_covered lines.now held.now ≡ true }
+    ensures covered { result ≡ true → are_covered lines.now calls held.now ≡ true }
 {
     match mode {
-        Continuation::Run => all_covered(lines, held),
+        Continuation::Run => all_covered(lines, calls, held),
         Continuation::StepInto => false,
         Continuation::StepOver => false,
         Continuation::StepOut => false,
@@ -67,7 +108,7 @@ fn are_seen(mode: Continuation, lines: &[u32], held: &[Breakpoint]) -> bool
 }
 
 /// The lines of the enabled breakpoints that are on lines, as far as there is room.
-fn lines_of(held: &[Breakpoint], lines: &mut [u32; MOST_LINES]) -> usize
+pub(crate) fn lines_of(held: &[Breakpoint], lines: &mut [u32; MOST_LINES]) -> usize
     ensures { result ≤ 16 }
 {
     let mut count = 0;
@@ -84,24 +125,27 @@ fn lines_of(held: &[Breakpoint], lines: &mut [u32; MOST_LINES]) -> usize
     count
 }
 
-/// Whether each of these breakpoints is disabled, on a function, or on one of these lines.
-fn all_covered(lines: &[u32], held: &[Breakpoint]) -> bool
-    ensures { result ≡ are_covered lines.now held.now }
+/// Whether each of these breakpoints is disabled, on a function where calls are not passed, or on one of these lines.
+fn all_covered(lines: &[u32], calls: bool, held: &[Breakpoint]) -> bool
+    ensures { result ≡ are_covered lines.now calls held.now }
 {
     for breakpoint in held {
-        if !covers(lines, breakpoint) {
+        if !covers(lines, calls, breakpoint) {
             return false;
         }
     }
     true
 }
 
-/// Whether a breakpoint is disabled, on a function, or on one of these lines.
-fn covers(lines: &[u32], breakpoint: &Breakpoint) -> bool
-    ensures { result ≡ is_covered lines.now breakpoint.now }
+/// Whether a breakpoint is disabled, on a function where calls are not passed, or on one of these lines.
+fn covers(lines: &[u32], calls: bool, breakpoint: &Breakpoint) -> bool
+    ensures { result ≡ is_covered lines.now calls breakpoint.now }
 {
-    if !breakpoint.enabled || is_of_function(breakpoint.kind) {
+    if !breakpoint.enabled {
         return true;
+    }
+    if is_of_function(breakpoint.kind) {
+        return !calls;
     }
     match breakpoint.line {
         Some(line) => !is_free(lines, line),

@@ -10,3 +10,10 @@ pub enum Reached {
     /// The end of its program.
     End(Outcome),
 }
+
+/// Where a machine has come to that passed one moment, and whether its program stops there. At the end it does not.
+#[derive(Clone, Copy, Debug)]
+pub struct Passed {
+    pub reached: Reached,
+    pub stops: bool,
+}

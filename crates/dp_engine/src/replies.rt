@@ -4,13 +4,11 @@ ghost use Rattle.std.specs.List.{AllByRecursion};
 ghost use Rattle.dp_command.specs.Names.{name_of};
 ghost use Rattle.dp_features.specs.Features.{feature_named};
 ghost use Rattle.dp_packet.specs.Parts.{flag};
-ghost use Rattle.dp_packet.specs.declared.packet.Packet.TheVariants as packet;
-ghost use Rattle.dp_packet.specs.Text.{text};
-ghost use Rattle.dp_wire.specs.Frames.{IsPacketText, command_limit, packet_limit};
+ghost use Rattle.dp_wire.specs.Frames.{IsPacketText, command_limit};
 ghost use Rattle.dp_engine.specs.Answers as spec;
 ghost use Rattle.dp_engine.specs.Responses.{fault_response, status_response};
 ghost use Rattle.dp_engine.specs.States.{phase_name, reason_name};
-ghost use Rattle.dp_engine.specs.inner.Sizes.{Fits};
+ghost use Rattle.dp_engine.specs.inner.Sizes.{Fits, HasRoom};
 ghost use Rattle.dp_engine.specs.inner.Position.{phase_of, reason_at};
 ghost use Rattle.dp_engine.specs.inner.Turns.{Responds, Tells};
 
@@ -27,29 +25,49 @@ use std::alloc::Global;
 /// What one command tells, and how it has ended its session, if it has.
 #[derive(Debug, Drop)]
 pub(crate) struct Turn {
-    /// The text of the news that go before its response.
-    pub(crate) before: Option<Bytes>,
-    /// The text of its response.
-    pub(crate) text: Bytes,
+    /// The news that go before its response.
+    pub(crate) before: Option<Notify>,
+    pub(crate) response: Response,
     pub(crate) ended: Option<SessionEnd>,
 }
 
 /// A response, after which the session has ended so, or goes on.
-fn turn_with(alloc: Global, response: Response, ended: Option<SessionEnd>) -> Result<Turn, Memory>
+fn turn_with(response: Response, ended: Option<SessionEnd>) -> Turn
     requires { Fits response }
-    ensures { IfOk result (Responds response ended) }
+    ensures { Responds response ended result }
 {
-    let text = responses::text(alloc, response)?;
-    Ok(Turn {
+    Turn {
         before: None,
-        text,
+        response,
         ended,
-    })
+    }
+}
+
+/// A response behind news, if there are any, after which the session goes on.
+pub(crate) fn tell_behind(answered: Answered) -> Turn
+    requires fits { Fits answered.response }
+    requires room { IfSome answered.notice HasRoom }
+    ensures { Tells answered.notice answered.response None result }
+{
+    let Answered { notice, response } = answered;
+    Turn {
+        before: notice,
+        response,
+        ended: None,
+    }
+}
+
+/// A response, after which the session goes on.
+pub(crate) fn tell(response: Response) -> Turn
+    requires { Fits response }
+    ensures { Responds response None result }
+{
+    turn_with(response, None)
 }
 
 /// The text of news, if there are any.
-fn news(alloc: Global, notice: Option<Notify>) -> Result<Option<Bytes>, Memory>
-    requires { IfSome notice (λ n. length (text (packet.Notify n)) ≤ packet_limit) }
+pub(crate) fn news(alloc: Global, notice: Option<Notify>) -> Result<Option<Bytes>, Memory>
+    requires { IfSome notice HasRoom }
     ensures value { IfOk result (λ before. option_to_list before ≡ spec.news notice) }
     ensures are_texts { IfOk result (λ before. AllByRecursion IsPacketText (option_to_list before)) }
 {
@@ -59,36 +77,12 @@ fn news(alloc: Global, notice: Option<Notify>) -> Result<Option<Bytes>, Memory>
     }
 }
 
-/// A response behind news, if there are any, after which the session goes on.
-pub(crate) fn tell_behind(alloc: Global, answered: Answered) -> Result<Turn, Memory>
-    requires fits { Fits answered.response }
-    requires room { IfSome answered.notice (λ n. length (text (packet.Notify n)) ≤ packet_limit) }
-    ensures { IfOk result (Tells (spec.news answered.notice) answered.response None) }
-{
-    let Answered { notice, response } = answered;
-    let before = news(alloc, notice)?;
-    let text = responses::text(alloc, response)?;
-    Ok(Turn {
-        before,
-        text,
-        ended: None,
-    })
-}
-
-/// A response, after which the session goes on.
-pub(crate) fn tell(alloc: Global, response: Response) -> Result<Turn, Memory>
-    requires { Fits response }
-    ensures { IfOk result (Responds response None) }
-{
-    turn_with(alloc, response, None)
-}
-
 /// An error with this code.
 pub(crate) fn refuse(alloc: Global, to: &Addressee, code: ErrorCode) -> Result<Turn, Memory>
     ensures { IfOk result (Responds (fault_response to.now.command to.now.id code) None) }
 {
     let response = responses::fault(alloc, to, code)?;
-    tell(alloc, response)
+    Ok(tell(response))
 }
 
 /// The state and the reason of a session that stands so.
@@ -99,7 +93,7 @@ pub(crate) fn tell_status(alloc: Global, to: &Addressee, position: Position) -> 
     let status = position.phase().name();
     let reason = position.reason().name();
     let response = responses::status(alloc, to, status, reason)?;
-    tell(alloc, response)
+    Ok(tell(response))
 }
 
 /// A feature's value, or whether there is a command of this name.
@@ -132,7 +126,7 @@ fn tell_value(
 {
     let value = features.value(alloc, found)?;
     let response = responses::feature(alloc, to, feature, b"1", Some(value))?;
-    tell(alloc, response)
+    Ok(tell(response))
 }
 
 /// Whether there is a command of a name that no feature has.
@@ -148,7 +142,7 @@ fn tell_command(
 {
     let supported = supported(feature);
     let response = responses::feature(alloc, to, feature, supported, None)?;
-    tell(alloc, response)
+    Ok(tell(response))
 }
 
 /// `1` if a command has this name, else `0`.
@@ -164,7 +158,7 @@ pub(crate) fn stop(alloc: Global, to: &Addressee, end: SessionEnd) -> Result<Tur
     ensures { IfOk result (Responds (spec.stopped_response to.now.command to.now.id) (Some end)) }
 {
     let response = responses::status(alloc, to, b"stopped", b"ok")?;
-    turn_with(alloc, response, Some(end))
+    Ok(turn_with(response, Some(end)))
 }
 
 /// The session ends, and the program runs on by itself.
@@ -173,5 +167,5 @@ pub(crate) fn detach(alloc: Global, to: &Addressee) -> Result<Turn, Memory>
         (status_response to.now.command to.now.id (codes "stopping") (codes "ok")) (Some SessionEnd.Detached)) }
 {
     let response = responses::status(alloc, to, b"stopping", b"ok")?;
-    turn_with(alloc, response, Some(SessionEnd::Detached))
+    Ok(turn_with(response, Some(SessionEnd::Detached)))
 }

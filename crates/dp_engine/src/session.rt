@@ -1,25 +1,25 @@
 //! One session of the engine with an IDE.
-ghost use Rattle.std.specs.Prelude.{◌≡◌, ◌≢◌, ◌+◌, ◌≤◌, [], drop, false, length, map, option_to_list, true};
-ghost use Rattle.std.specs.Prelude.{IfOk, OnErr, OnOk};
+ghost use Rattle.std.specs.Prelude.{◌≡◌, ◌≢◌, ◌+◌, ◌≤◌, [], drop, false, length, map, true, IfOk, IfSome, OnErr, OnOk};
 ghost use Rattle.std.specs.List.{AllByRecursion};
 ghost use Rattle.dp_wire.specs.Frames.{IsCommand, IsPacketText};
 ghost use Rattle.dp_outside.specs.Names.{key_limit};
 ghost use Rattle.dp_engine.specs.Responses.{init_text, main_name};
-ghost use Rattle.dp_engine.specs.inner.Sizes.{IsShortLine};
+ghost use Rattle.dp_engine.specs.inner.Sizes.{Fits, HasRoom, IsShortLine};
 ghost use Rattle.dp_engine.specs.inner.Turns.{IsSent};
 ghost use Rattle.dp_command.specs.Lines.{line_of};
 ghost use Rattle.dp_tree.specs.FileNames.{AreFileNames, file_name_limit};
 
 use crate::moves::go_on_from;
 use crate::reached::Reached;
-use crate::replies::Turn;
+use crate::replies::{Turn, news};
+use crate::responses;
 use crate::states::{Phase, Position};
 use crate::streams::{to_ide, to_program};
 use dp_break::Breaks;
 use dp_command::{Continuation, Line, LineError, StreamMode, read_line};
 use dp_features::Features;
 use dp_meaning::NumberedWrite;
-use dp_packet::{Init, Packet, file_uri, text_of};
+use dp_packet::{Init, Notify, Packet, Response, file_uri, text_of};
 use dp_state::{Outcome, State};
 use dp_step::{Machine, Steps};
 use dp_tree::Bundle;
@@ -42,6 +42,18 @@ pub enum SessionEnd {
 /// What one command leads to.
 pub type Answer = dp_conversation::Answer<SessionEnd>;
 
+/// What one command leads to, of which nothing is made a text.
+#[derive(Debug, Drop)]
+pub struct Report {
+    /// The news that go before the response.
+    pub before: Option<Notify>,
+    pub response: Response,
+    /// What the program wrote, wherever it goes.
+    pub written: Bytes,
+    /// How the session has ended, if it has.
+    pub ended: Option<SessionEnd>,
+}
+
 /// A session. Contracts see what it knows.
 #[derive(Drop)]
 pub struct Session<'a> {
@@ -49,7 +61,7 @@ pub struct Session<'a> {
     pub(crate) bound: u64,
     /// The writes that were accepted, none of them at a later moment.
     pub(crate) writes: Vec<NumberedWrite>,
-    /// The number of the current moment, 0 before the first, and the depth there.
+    /// The number of the current moment, 0 before the first and after the end, and the depth there, else 1.
     pub(crate) moment: u64,
     pub(crate) depth: u32,
     pub(crate) position: Position,
@@ -87,7 +99,7 @@ impl<'a> Model for Session<'a> {
 }
 
 /// The line that the bytes spell, if they spell one.
-fn read(alloc: Global, bytes: &[u8]) -> Result<Option<Line>, Memory>
+pub(crate) fn read(alloc: Global, bytes: &[u8]) -> Result<Option<Line>, Memory>
     requires { IsCommand bytes.now }
     ensures value { IfOk result (λ line. line ≡ line_of bytes.now) }
     ensures short { IfOk result IsShortLine }
@@ -110,18 +122,25 @@ fn tail(bytes: &[u8], count: usize) -> &[u8]
     }
 }
 
-/// What is sent of a turn in which so much was written.
-fn give(alloc: Global, mode: StreamMode, written: &[u8], turn: Turn) -> Result<Answer, Memory>
-    requires text { IsPacketText turn.text }
-    requires before { AllByRecursion IsPacketText (option_to_list turn.before) }
+/// What is sent of a turn in which so much was written. The texts are made here.
+pub(crate) fn give(
+    alloc: Global,
+    mode: StreamMode,
+    written: &[u8],
+    turn: Turn,
+) -> Result<Answer, Memory>
+    requires fits { Fits turn.response }
+    requires room { IfSome turn.before HasRoom }
     ensures ok { IfOk result (λ answer. IsSent mode written.now turn answer) }
     ensures are_texts { IfOk result (λ answer. AllByRecursion IsPacketText answer.packets) }
 {
     let Turn {
         before,
-        text,
+        response,
         ended,
     } = turn;
+    let before = news(alloc, before)?;
+    let text = responses::text(alloc, response)?;
     let packets = to_ide(alloc, mode, written, before, text)?;
     let program = to_program(alloc, mode, written)?;
     Ok(Answer {
@@ -134,9 +153,10 @@ fn give(alloc: Global, mode: StreamMode, written: &[u8], turn: Turn) -> Result<A
 impl<'a> Session<'a> {
     ghost use Rattle.dp_engine.specs.Answers as spec;
     ghost use Rattle.dp_engine.specs.Answers.{gone_on};
-    ghost use Rattle.dp_engine.specs.Refusals.{refusal};
+    ghost use Rattle.dp_engine.specs.Refusals.{refusal, refusal_of_line};
     ghost use Rattle.dp_engine.specs.Refused.{IsAnsweredBy};
-    ghost use Rattle.dp_engine.specs.Session.{opening, outcome_of, program_of, steps_between, steps_left, unwritten};
+    ghost use Rattle.dp_engine.specs.Session.{opening, outcome_of, output_so_far, program_of};
+    ghost use Rattle.dp_engine.specs.Session.{steps_between, steps_left, unwritten, written_between};
     ghost use Rattle.dp_conversation.specs.Folds.{reply_of};
     ghost use Rattle.dp_state.specs.States.{IsOf};
 
@@ -196,15 +216,31 @@ impl<'a> Session<'a> {
         }
     }
 
+    /// The same, but that nothing is made a text: the response and the news before it as values, and what the program
+    /// wrote, wherever it goes. It is copied once.
+    pub fn tell<L: Ledger>(&mut self, line: &[u8], steps: &mut Steps<L>) -> Result<Report, Memory>
+        requires { IsCommand line.now }
+        ensures ok { IfOk result (λ report. spec.turn_with report self.new ≡ spec.turn self.old line.now) }
+        ensures written { IfOk result (λ report. report.written ≡ written_between self.old self.new) }
+        ensures steps { IfOk result (λ report. steps.new ≡ steps.old + steps_between self.old self.new) }
+        ensures fails { OnErr result (self.new.failed ≡ true) }
+        ensures stays { OnOk result (self.old.failed ≡ false) }
+    {
+        match self.tell_line(line, steps) {
+            Ok(report) => Ok(report),
+            Err(_) => Err(self.fail()),
+        }
+    }
+
     /// From now on it answers that it is out of memory.
-    fn fail(&mut self) -> Memory
+    pub(crate) fn fail(&mut self) -> Memory
         ensures { self.new.failed ≡ true }
     {
         self.failed = true;
         Memory
     }
 
-    /// The same; once memory ran out it is not noted yet.
+    /// The answer to a command; once memory ran out it is not noted yet.
     fn answer_line<L: Ledger>(
         &mut self,
         line: &[u8],
@@ -213,20 +249,77 @@ impl<'a> Session<'a> {
         requires { IsCommand line.now }
         ensures ok { IfOk result (λ answer. reply_of answer self.new ≡ spec.answer self.old line.now) }
         ensures are_texts { IfOk result (λ answer. AllByRecursion IsPacketText answer.packets) }
-        ensures refused { IfOk result (λ answer.
-            IsAnsweredBy (refusal self.old line.now) self.old line.now (reply_of answer self.new)) }
+        ensures steps { IfOk result (λ answer. steps.new ≡ steps.old + steps_between self.old self.new) }
+        ensures stays { OnOk result (self.old.failed ≡ false) }
+    {
+        let line = read(self.alloc, line)?;
+        self.answer_read(line, steps)
+    }
+
+    /// The answer to a line that was read.
+    pub(crate) fn answer_read<L: Ledger>(
+        &mut self,
+        line: Option<Line>,
+        steps: &mut Steps<L>,
+    ) -> Result<Answer, Memory>
+        requires { IsShortLine line }
+        ensures ok { IfOk result (λ answer. reply_of answer self.new
+            ≡ spec.sent self.old (spec.turn_of line (refusal_of_line self.old line) self.old)) }
+        ensures are_texts { IfOk result (λ answer. AllByRecursion IsPacketText answer.packets) }
         ensures steps { IfOk result (λ answer. steps.new ≡ steps.old + steps_between self.old self.new) }
         ensures stays { OnOk result (self.old.failed ≡ false) }
     {
         let alloc = self.alloc;
-        let line = read(alloc, line)?;
         let mode = self.stdout;
-        let program = self.program()?;
-        let shown = program.output.len();
+        let shown = self.shown()?;
         let turn = self.turn(alloc, line, steps)?;
-        let program = self.program()?;
-        let written = tail(program.output.as_slice(), shown);
+        let written = self.written_past(shown)?;
         give(alloc, mode, written, turn)
+    }
+
+    /// The report of a command; once memory ran out it is not noted yet.
+    fn tell_line<L: Ledger>(&mut self, line: &[u8], steps: &mut Steps<L>) -> Result<Report, Memory>
+        requires { IsCommand line.now }
+        ensures ok { IfOk result (λ report. spec.turn_with report self.new ≡ spec.turn self.old line.now) }
+        ensures written { IfOk result (λ report. report.written ≡ written_between self.old self.new) }
+        ensures steps { IfOk result (λ report. steps.new ≡ steps.old + steps_between self.old self.new) }
+        ensures stays { OnOk result (self.old.failed ≡ false) }
+    {
+        let alloc = self.alloc;
+        let line = read(alloc, line)?;
+        let shown = self.shown()?;
+        let turn = self.turn(alloc, line, steps)?;
+        let written = self.written_past(shown)?;
+        let written = Bytes::from_slice(alloc, written)?;
+        let Turn {
+            before,
+            response,
+            ended,
+        } = turn;
+        Ok(Report {
+            before,
+            response,
+            written,
+            ended,
+        })
+    }
+
+    /// How many bytes the program has written so far.
+    pub(crate) fn shown(&self) -> Result<usize, Memory>
+        ensures shown { IfOk result (λ shown. shown ≡ length (output_so_far self.now)) }
+        ensures stays { OnOk result (self.now.failed ≡ false) }
+    {
+        let program = self.program()?;
+        Ok(program.output.len())
+    }
+
+    /// What the program has written so far, behind so many bytes.
+    pub(crate) fn written_past(&self, shown: usize) -> Result<&[u8], Memory>
+        ensures written { IfOk result (λ written. written.now ≡ drop shown (output_so_far self.now)) }
+        ensures stays { OnOk result (self.now.failed ≡ false) }
+    {
+        let program = self.program()?;
+        Ok(tail(program.output.as_slice(), shown))
     }
 
     /// The program's state at the moment, or at its end, unless the session has failed.
@@ -274,6 +367,8 @@ impl<'a> Session<'a> {
                 Ok(())
             }
             Reached::End(outcome) => {
+                self.moment = 0;
+                self.depth = 1;
                 self.position = Position::Stopping(outcome);
                 Ok(())
             }

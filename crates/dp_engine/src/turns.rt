@@ -153,7 +153,7 @@ impl<'a> Session<'a> {
             &mut self.breaks,
             wishes,
         ) {
-            Ok(answered) => tell_behind(alloc, answered),
+            Ok(answered) => Ok(tell_behind(answered)),
             Err(BreakpointError::Code(code)) => self.refuse(alloc, to, code),
             Err(BreakpointError::Memory) => Err(Memory),
         }
@@ -175,7 +175,7 @@ impl<'a> Session<'a> {
             request,
         );
         match shown {
-            Ok(response) => tell(alloc, response),
+            Ok(response) => Ok(tell(response)),
             Err(ViewError::Code(code)) => refuse(alloc, to, code),
             Err(ViewError::Memory) => Err(Memory),
         }
@@ -207,7 +207,7 @@ impl<'a> Session<'a> {
             request,
         );
         match made {
-            Ok(response) => tell(alloc, response),
+            Ok(response) => Ok(tell(response)),
             Err(ViewError::Code(code)) => self.refuse(alloc, to, code),
             Err(ViewError::Memory) => Err(Memory),
         }
@@ -240,7 +240,7 @@ impl<'a> Session<'a> {
             self.features = self.features.with(setting);
         }
         let response = responses::feature_set(alloc, to, feature)?;
-        tell(alloc, response)
+        Ok(tell(response))
     }
 
     /// Tells where output goes. The program's output goes there from now on.
@@ -262,7 +262,7 @@ impl<'a> Session<'a> {
             Stream::Stderr => false,
         };
         let response = responses::success(alloc, to, succeeds)?;
-        tell(alloc, response)
+        Ok(tell(response))
     }
 
     /// A continuation. Once the program has ended it ends the session.

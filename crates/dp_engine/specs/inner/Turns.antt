@@ -1,6 +1,5 @@
 -- A turn as the code makes it.
-use Rattle.std.specs.Prelude.{◌≡◌, ℕ, true, List, [], ◌∷◌, ◌++◌, Option, Some, None, option_to_list, Result, Ok, Err}
-use Rattle.std.specs.List.{AllByRecursion}
+use Rattle.std.specs.Prelude.{◌≡◌, ℕ, true, List, [], ◌∷◌, ◌++◌, Option, Some, None, IfSome, Result, Ok, Err}
 use Rattle.dp_command.specs.declared.command.Command.{Command}
 use Rattle.dp_command.specs.declared.errors.CommandError.{CommandError}
 use Rattle.dp_command.specs.declared.errors.CommandError.TheVariants.{Code, Memory}
@@ -13,33 +12,34 @@ use Rattle.dp_command.specs.Names.{name_of}
 use Rattle.dp_command.specs.Refusals.{id_of}
 use Rattle.dp_command.specs.Tests.{first_code}
 use Rattle.dp_packet.specs.declared.error_codes.ErrorCode.{ErrorCode}
+use Rattle.dp_packet.specs.declared.packet.Notify.{Notify}
 use Rattle.dp_packet.specs.declared.packet.Response.{Response}
 use Rattle.dp_packet.specs.Parts.{Text}
 use Rattle.dp_conversation.specs.declared.responder.Answer.{Answer}
-use Rattle.dp_wire.specs.Frames.{IsPacketText}
 use Rattle.dp_engine.specs.declared.session.SessionEnd.{SessionEnd}
 use Rattle.dp_engine.specs.declared.replies.Turn.{Turn as Made}
 use Rattle.dp_engine.specs.declared.states.Phase.{Phase}
 use Rattle.dp_engine.specs.declared.states.Phase.TheVariants.{Break}
-use Rattle.dp_engine.specs.Answers.{Turn, performed, refused, to_ide, to_program}
+use Rattle.dp_engine.specs.Answers.{Turn, news, performed, refused, to_ide, to_program}
 use Rattle.dp_engine.specs.Refusals.{of_command, own_tests, refusal_of_line}
 use Rattle.dp_engine.specs.Responses.{response_text}
 use Rattle.dp_engine.specs.Session.{State}
 use Rattle.dp_engine.specs.States.{allows}
+use Rattle.dp_engine.specs.inner.Sizes.{Fits, HasRoom}
 
--- a turn that tells this response behind these packets, and ends the session so
-pub record Tells (before : List Text) (response : Response) (ended : Option SessionEnd)
-    (made : Made)
-    : Type 0 where
-  pub before_it : option_to_list made.before ≡ before
-  pub text : made.text ≡ response_text response
+-- a turn that tells this response behind these news, and ends the session so; packets can be made
+-- of them
+pub record Tells (before : Option Notify) (response : Response) (ended : Option SessionEnd)
+    (made : Made) : Type 0 where
+  pub before_it : made.before ≡ before
+  pub response_is : made.response ≡ response
   pub ends : made.ended ≡ ended
-  pub is_text : IsPacketText made.text
-  pub are_texts : AllByRecursion IsPacketText (option_to_list made.before)
+  pub fits : Fits made.response
+  pub room : IfSome made.before HasRoom
 
 -- one that tells it alone
 abbrev pub Responds : Response → Option SessionEnd → Made → Type 0
-Responds response ended made = Tells [] response ended made
+Responds response ended made = Tells None response ended made
 
 -- a turn that is the one asked for, after which the session knows this
 pub record IsTurn (asked : Turn) (state : State) (made : Made) : Type 0 where
@@ -49,7 +49,8 @@ pub record IsTurn (asked : Turn) (state : State) (made : Made) : Type 0 where
 -- what is sent of a turn in which this was written
 pub record IsSent (mode : StreamMode) (written : List ℕ) (made : Made) (sent : Answer SessionEnd)
     : Type 0 where
-  pub packets : sent.packets ≡ to_ide mode written ++ option_to_list made.before ++ made.text ∷ []
+  pub packets : sent.packets
+      ≡ to_ide mode written ++ news made.before ++ response_text made.response ∷ []
   pub program : sent.program ≡ to_program mode written
   pub ended : sent.ended ≡ made.ended
 

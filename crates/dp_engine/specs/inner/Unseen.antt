@@ -1,6 +1,6 @@
 -- Moments at which nothing stops a program and no breakpoint hits, found by the lines of the
 -- breakpoints.
-use Rattle.std.specs.Prelude.{◌≡◌, ℕ, zero, suc, ◌+◌, Bool, false, not, ◌||◌, List, Some}
+use Rattle.std.specs.Prelude.{◌≡◌, ℕ, zero, suc, ◌+◌, Bool, false, not, ◌||◌, if◌then◌else◌, List, Some}
 use Rattle.std.specs.List.{list_all, list_any}
 use Rattle.std.specs.Option.{option_map_or}
 use Rattle.dp_break.specs.declared.breakpoint.Breakpoint.{Breakpoint}
@@ -16,14 +16,15 @@ use Rattle.dp_step.specs.declared.machine.Machine.{Machine}
 use Rattle.dp_step.specs.declared.machine.Progress.{Progress}
 use Rattle.dp_step.specs.Stands.{GoesOn, steps_of}
 
--- a breakpoint is disabled, on a function, or on one of these lines
-abbrev pub is_covered : List ℕ → Breakpoint → Bool
-is_covered lines b =
+-- a breakpoint is disabled, on a function where calls are not passed, or on one of these lines
+abbrev pub is_covered : List ℕ → Bool → Breakpoint → Bool
+is_covered lines calls b =
     not b.enabled
-    || (is_of_function b.kind || option_map_or (λ line. not (is_free lines line)) b.line false)
+    || (if is_of_function b.kind then not calls
+    else option_map_or (λ line. not (is_free lines line)) b.line false)
 
-abbrev pub are_covered : List ℕ → List Breakpoint → Bool
-are_covered lines held = list_all (is_covered lines) held
+abbrev pub are_covered : List ℕ → Bool → List Breakpoint → Bool
+are_covered lines calls held = list_all (is_covered lines calls) held
 
 abbrev pub IsUnseen : (Moment → Bool) → Bundle → List Breakpoint → Moment × State → Type 0
 IsUnseen mode bundle held at = (mode at.0 ≡ false) × (list_any (hits bundle at) held ≡ false)

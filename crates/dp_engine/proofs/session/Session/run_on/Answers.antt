@@ -1,5 +1,6 @@
-use Rattle.std.proofs.Common.{◌≢◌, ap, sym, ◌∙◌, arith}
+use Rattle.std.proofs.Common.{◌≢◌, ap, refl, sym, ◌∙◌, arith}
 use Rattle.dp_engine.specs.declared.states.Phase.TheVariants.{Stopping}
+use Rattle.dp_engine.specs.Stops.{stops}
 use Rattle.dp_engine.specs.inner.Position.{phase_of}
 use Rattle.dp_engine.proofs.TurnLaws.{comes_later, counts_out, counts_to, goes_out, goes_to, machine_there, nothing_kept}
 use Rattle.dp_engine.proofs.session.Session.run_on.Goals as goal
@@ -13,8 +14,7 @@ invariant_of-self-in-Moment g c =
     s.machine c.if-self.false before c.self.invariant.0 in
     let reaches = rw c.in-Moment.is at (c.in-Ok.ensures.reached s.bound s.writes.items s.moment stands) in
     let later = comes_later s.bundle.now s.bound s.writes.items s.moment s.position s.features s.stdout
-    s.breaks s.failed
-    s.machine s.depth c.self.invariant.1 c.args.mode c.in-Moment.number reaches.0 in
+    s.breaks s.failed s.machine (stops c.args.mode s.depth) c.in-Moment.number reaches.0 in
     ((omega (arith, later), λ e. reaches.1), reaches.2, c.self.invariant.2)
 
 pub returns-in-Moment-clause-goes : goal.returns-in-Moment-clause-goes
@@ -39,8 +39,7 @@ returns-in-Moment-clause-steps g c =
     s.machine c.if-self.false before c.self.invariant.0 in
     let reaches = rw c.in-Moment.is at (c.in-Ok.ensures.reached s.bound s.writes.items s.moment stands) in
     let later = comes_later s.bundle.now s.bound s.writes.items s.moment s.position s.features s.stdout
-    s.breaks s.failed
-    s.machine s.depth c.self.invariant.1 c.args.mode c.in-Moment.number reaches.0 in
+    s.breaks s.failed s.machine (stops c.args.mode s.depth) c.in-Moment.number reaches.0 in
     rw (← c.self.view_is) (counts_to s.bundle.now s.bound s.writes.items s.moment s.position s.features s.stdout
     s.breaks s.failed s.machine c.args.steps.now c.go_on_from.new.steps c.in-Moment.number
     c.go_on_from.new.breaks before later (rw c.in-Moment.is at
@@ -54,7 +53,7 @@ invariant_of-self-in-End g c =
     s.breaks s.failed
     s.machine c.if-self.false before c.self.invariant.0 in
     let reaches = rw c.in-End.is at (c.in-Ok.ensures.reached s.bound s.writes.items s.moment stands) in
-    ((reaches.1, reaches.2), c.self.invariant.1, c.self.invariant.2)
+    ((reaches.1, reaches.2), refl, c.self.invariant.2)
 
 pub returns-in-End-clause-goes : goal.returns-in-End-clause-goes
 returns-in-End-clause-goes g c =

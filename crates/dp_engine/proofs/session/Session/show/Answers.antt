@@ -1,4 +1,4 @@
-use Rattle.std.proofs.Common.{rules, ◌≡◌, Err, ap, refl, sym, ◌∙◌}
+use Rattle.std.proofs.Common.{rules, ◌≡◌, ℕ, Ok, Err, ap, refl, sym, ◌∙◌}
 use Rattle.dp_command.specs.declared.command.Request.TheVariants.{Look}
 use Rattle.dp_view_commands.specs.Views.{view_response}
 use Rattle.dp_engine.specs.Session.{program_of}
@@ -17,7 +17,7 @@ returns-in-Ok c =
     let id = c.args.to.now.id in
     let is = view_is state c.in_ok-program.program.now c.file.result command id c.args.request.now
     (c.in_ok-program.ensures.state ∙ ap program_of (sym c.self.view_is)) c.file.ensures in
-    rw (← c.self.view_is) (view_responds state command id c.args.request.now c.in-Ok.response c.tell.result
+    rw (← c.self.view_is) (view_responds {E = ℕ} state command id c.args.request.now c.in-Ok.response (Ok c.tell.result)
     (is ∙ c.in-Ok.ensures.answer) c.tell.ensures)
 
 pub returns-in-Err-Code : goal.returns-in-Err-Code

@@ -1,4 +1,4 @@
-use Rattle.std.proofs.Common.{rules, ◌≡◌, Err, ap, subst, ◌∙◌}
+use Rattle.std.proofs.Common.{rules, ◌≡◌, ℕ, Ok, Err, ap, subst, ◌∙◌}
 use Rattle.dp_command.specs.declared.command.Request.TheVariants.{Write}
 use Rattle.dp_state.specs.declared.state.State.{State}
 use Rattle.dp_write_commands.specs.Responses.{write_response}
@@ -35,8 +35,8 @@ returns-in-Ok-clause-turn c =
     let same = program_is s.bundle.now s.bound s.writes.items s.moment s.position s.features s.stdout
     s.breaks s.failed s.machine c.if-self.false c.self.invariant.0 in
     rw (← c.self.view_is) (write_turn s.bundle.now s.bound s.writes.items s.moment s.position s.features s.stdout
-    s.breaks s.failed s.machine c.accept-made.new.program c.accept-made.new.writes.items
-    c.args.to.now.command c.args.to.now.id c.args.request.now c.in-Ok.response c.tell.result same
+    s.breaks s.failed s.machine {E = ℕ} c.accept-made.new.program c.accept-made.new.writes.items
+    c.args.to.now.command c.args.to.now.id c.args.request.now c.in-Ok.response (Ok c.tell.result) same
     (subst (λ (p : State). IsKeptWrite s.bundle.now s.features p c.accept-made.new.program s.writes.items
     c.accept-made.new.writes.items s.moment c.args.to.now.command c.args.to.now.id
     c.args.request.now c.in-Ok.response) c.state_mut.ensures.state c.in-Ok.ensures.answer) c.tell.ensures)
