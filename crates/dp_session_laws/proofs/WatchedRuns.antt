@@ -34,7 +34,6 @@ use Rattle.dp_state.specs.declared.moments.Moment.{Moment}
 use Rattle.dp_break.specs.Tables.{Table}
 use Rattle.dp_state.specs.declared.state.State.{State as ProgramState}
 use Rattle.dp_state.specs.States.{opening as first_state}
-use Rattle.dp_wire.specs.Frames.{commands_in}
 use Rattle.dp_write_commands.specs.Requests.{requested_write}
 use Rattle.dp_write_commands.specs.Responses.{write_response}
 use Rattle.dp_engine.specs.declared.session.SessionEnd.{SessionEnd}
@@ -43,8 +42,8 @@ use Rattle.dp_engine.specs.declared.states.Phase.{Phase}
 use Rattle.dp_engine.specs.declared.states.Phase.TheVariants.{Starting, Break, Stopping}
 use Rattle.dp_engine.specs.Answers.{answer, at_end, at_stop, continued, gone_on, kept_if, moved, performed, session_done, to_program, turn, turn_by_command, turn_of, with_write}
 use Rattle.dp_engine.specs.Refusals.{of_command, refusal_of_line}
-use Rattle.dp_engine.specs.Served.{answers, ending, ending_after, own, rest_after, writes}
-use Rattle.dp_session_laws.specs.AllOutput.{Begins, IsRunWith, NeverRedirects, UnlessEnded, all_output, writing}
+use Rattle.dp_engine.specs.Served.{answers_to, ending_after, ending_with, own_with, rest_after, writes_with}
+use Rattle.dp_session_laws.specs.AllOutput.{Begins, IsRunWith, NeverRedirects, UnlessEnded, all_output_with, writing}
 use Rattle.dp_engine.specs.Session.{State, breaks_of, depth_at, opening, outcome_of, output_by, output_so_far, program_by, program_of, stop_of, trace_of, unwritten, whole_output, written_between}
 use Rattle.dp_session_laws.specs.Shown.{IsInRun, IsInRunAt}
 use Rattle.dp_engine.specs.States.{allows}
@@ -477,9 +476,8 @@ module _ (bundle : Bundle) (bound : ℕ) where
       (omega (arith, placed.2), is ∙ ap (λ (s : ProgramState). Some s) (sym same))
   stands_by Stopping state h placed = λ i. (program_trace (h.of i) (h.within i) state.writes).state
 
-  pub stands : (bytes : List ℕ) → IsInRun bundle bound (answers bundle bound bytes).state
-  stands bytes =
-      let lines = commands_in bytes in
+  pub stands : (lines : List (List ℕ)) → IsInRun bundle bound (answers_to bundle bound lines).state
+  stands lines =
       let start = opening bundle bound in
       let plain = (replies_show start lines opening_plain).is_plain in
       let r = replies writing start lines in
@@ -521,29 +519,27 @@ module _ (bundle : Bundle) (bound : ℕ) where
   run_by state r none s (Some (Finished o)) = (goes_on_whole state r none s, outcome_is r.state s.is_plain)
   run_by state r none s (Some Killed) = front_of_whole state r none s
 
-  pub is_run : (bytes : List ℕ)
-      → IsRunWith bundle bound (writes bundle bound bytes) (all_output bundle bound bytes) (ending bundle bound bytes)
-  is_run bytes =
-      let lines = commands_in bytes in
+  pub is_run : (lines : List (List ℕ)) → IsRunWith bundle bound (writes_with bundle bound lines)
+      (all_output_with bundle bound lines) (ending_with bundle bound lines)
+  is_run lines =
       let start = opening bundle bound in
       let r = replies writing start lines in
       let same = same_replies start lines in
       let run = run_by start r refl (replies_show start lines opening_plain) r.ended in
-      subst (λ (state : State). IsRunWith bundle bound state.writes (all_output bundle bound bytes)
-      (ending_after (answers bundle bound bytes).ended state)) (sym same.0)
-      (subst (λ (ended : Option SessionEnd). IsRunWith bundle bound r.state.writes (all_output bundle bound bytes)
+      subst (λ (state : State). IsRunWith bundle bound state.writes (all_output_with bundle bound lines)
+      (ending_after (answers_to bundle bound lines).ended state)) (sym same.0)
+      (subst (λ (ended : Option SessionEnd). IsRunWith bundle bound r.state.writes (all_output_with bundle bound lines)
       (ending_after ended r.state)) (sym same.1) run)
 
-  pub watched_run : (bytes : List ℕ) → writes bundle bound bytes ≡ []
-      → IsRunWith bundle bound [] (all_output bundle bound bytes) (ending bundle bound bytes)
-  watched_run bytes none =
-      subst (λ (ws : List NumberedWrite). IsRunWith bundle bound ws (all_output bundle bound bytes)
-      (ending bundle bound bytes)) none (is_run bytes)
+  pub watched_run : (lines : List (List ℕ)) → writes_with bundle bound lines ≡ []
+      → IsRunWith bundle bound [] (all_output_with bundle bound lines) (ending_with bundle bound lines)
+  watched_run lines none =
+      subst (λ (ws : List NumberedWrite). IsRunWith bundle bound ws (all_output_with bundle bound lines)
+      (ending_with bundle bound lines)) none (is_run lines)
 
-  pub own_is_all : (bytes : List ℕ) → NeverRedirects (opening bundle bound) (commands_in bytes)
-      → own bundle bound bytes ≡ all_output bundle bound bytes
-  own_is_all bytes h =
-      let lines = commands_in bytes in
+  pub own_is_all : (lines : List (List ℕ)) → NeverRedirects (opening bundle bound) lines
+      → own_with bundle bound lines ≡ all_output_with bundle bound lines
+  own_is_all lines h =
       let start = opening bundle bound in
       let same = same_replies start lines in
       λ i. own_programs start lines h i ++ rest_after (same.1 i) (same.0 i)

@@ -297,7 +297,7 @@ record IsUsual (state : State) : Type 0 where
 
 -- the turn sends texts of packets, and leaves the session as it is in that
 record IsGood (t : Turn) : Type 0 where
-  news : AllByRecursion IsPacketText t.before
+  before : AllByRecursion IsPacketText (news t.before)
   fits : Fits t.response
   next : IsUsual t.next
 
@@ -314,11 +314,12 @@ module _ (command id : Text) (p : length command ≤ 64) (q : length id ≤ 64) 
       (reason_short s.reason)
 
   continued_good : (mode : Continuation) (phase : Phase) → IsGood (continued command id mode phase state)
-  continued_good mode Starting = record { news = tt; fits = tells (gone_on mode state); next = gone_usual mode }
-  continued_good mode Break = record { news = tt; fits = tells (gone_on mode state); next = gone_usual mode }
+  continued_good mode Starting = record { before = tt; fits = tells (gone_on mode state); next = gone_usual mode }
+  continued_good mode Break = record { before = tt; fits = tells (gone_on mode state); next = gone_usual mode }
   continued_good mode Stopping = record {
-    news = tt;
-    fits = status_fits command id p q _ _ (omega arith) (omega arith);
+    before = tt;
+    fits = status_fits command id p q _ _ (omega arith)
+        (omega arith);
     next = h;
   }
 
@@ -329,30 +330,31 @@ module _ (command id : Text) (p : length command ≤ 64) (q : length id ≤ 64) 
       (told_short state.features (feature_named name) h.small)
 
   session_good : (r : SessionRequest) → AreShortNames r → IsGood (session_done command id r state)
-  session_good request.Status few = record { news = tt; fits = tells state; next = h }
-  session_good (request.FeatureGet name) few = record { news = tt; fits = told_good name few; next = h }
+  session_good request.Status few = record { before = tt; fits = tells state; next = h }
+  session_good (request.FeatureGet name) few = record { before = tt; fits = told_good name few; next = h }
   session_good (request.FeatureSet name value) few = record {
-    news = tt;
+    before = tt;
     fits = set_fits command id p q name few;
     next = record { small = set_small state.features name value h.small };
   }
   session_good (request.Continue mode) few = continued_good mode state.phase
   session_good (request.Finish Stop) few =
-      record { news = tt; fits = status_fits command id p q _ _ (omega arith) (omega arith); next = h }
+      record { before = tt; fits = status_fits command id p q _ _ (omega arith) (omega arith); next = h }
   session_good (request.Finish Detach) few =
-      record { news = tt; fits = status_fits command id p q _ _ (omega arith) (omega arith); next = h }
+      record { before = tt; fits = status_fits command id p q _ _ (omega arith) (omega arith); next = h }
   session_good (request.Redirect Stdout mode) few =
-      record { news = tt; fits = success_fits command id p q true; next = record { small = h.small } }
+      record { before = tt; fits = success_fits command id p q true; next = record { small = h.small } }
   session_good (request.Redirect Stderr mode) few = record {
-    news = tt;
+    before = tt;
     fits = success_fits command id p q false;
-    next = h;
+    next
+        = h;
   }
 
   -- a response to a breakpoint command
   breakpoint_known : (r : BreakpointRequest)
-      → HasMessage (packet.Response (breakpoint_response (resolves state.features) state.bundle command id
-      state.breaks r))
+      → HasMessage (packet.Response (breakpoint_response (resolves state.features) state.bundle command id state.breaks
+      r))
   breakpoint_known (asked.Set set) = refl
   breakpoint_known (asked.One Get number) = refl
   breakpoint_known (asked.One Remove number) = refl
@@ -407,10 +409,10 @@ module _ (command id : Text) (p : length command ≤ 64) (q : length id ≤ 64) 
   done_good : (r : Request) → IsShortRequest r → IsGood (performed command id r state)
   done_good (Session r) few = session_good r few
   done_good (Breakpoints r) few =
-      record { news = news_fit _; fits = in_packet_fits _ (breakpoint_known r); next = record { small = h.small } }
-  done_good (Look r) few = record { news = tt; fits = shown_fits r _ refl; next = h }
+      record { before = news_fit _; fits = in_packet_fits _ (breakpoint_known r); next = record { small = h.small } }
+  done_good (Look r) few = record { before = tt; fits = shown_fits r _ refl; next = h }
   done_good (Write r) few = record {
-    news = tt;
+    before = tt;
     fits = written_fits r _ refl;
     next =
         kept_usual (write_response state.bundle state.features (program_of state) command id r)
@@ -423,7 +425,7 @@ module _ (state : State) (h : IsUsual state) where
       → IsGood (turn_by_command line.name (id_of line) (option_map (command_as line) name) state)
   asked_good line few None short =
       record {
-        news = tt;
+        before = tt;
         fits = fault_fits line.name (id_of line) few.name (line_id_short (Some line)) UnimplementedCommand;
         next = h;
       }
@@ -434,7 +436,7 @@ module _ (state : State) (h : IsUsual state) where
   turn_good : (line : Option Line) → IsShortLine line → (code : Option ErrorCode) → refusal_of_line state line ≡ code
       → IsGood (turn_of line code state)
   turn_good line few (Some code) e = record {
-    news = tt;
+    before = tt;
     fits =
         fault_fits (command_in line) (id_in line) (name_short line few) (line_id_short line) code;
     next = h;
@@ -465,8 +467,8 @@ answer_sends state bytes h spoken =
     let good = is_good state h bytes spoken in
     record {
       texts =
-          sent_texts state.stdout (written_between state (turn state bytes).next) (turn state bytes).before
-          (response_text (turn state bytes).response) good.news (fits_packet (turn state bytes) good.fits);
+          sent_texts state.stdout (written_between state (turn state bytes).next) (news (turn state bytes).before)
+          (response_text (turn state bytes).response) good.before (fits_packet (turn state bytes) good.fits);
       usual = good.next;
     }
 

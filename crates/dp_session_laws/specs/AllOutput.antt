@@ -25,10 +25,14 @@ writing state bytes =
       ended = r.ended;
     }
 
--- all that the program writes, in order, whether it is shown to the IDE, goes to the program's own
--- output, or both
+-- all that the program writes with these commands, in order, whether it is shown to the IDE, goes
+-- to the program's own output, or both
+abbrev pub all_output_with : Bundle → ℕ → List (List ℕ) → List ℕ
+all_output_with bundle bound commands = own_of (replies writing (opening bundle bound) commands)
+
+-- the same with the commands among these bytes
 abbrev pub all_output : Bundle → ℕ → List ℕ → List ℕ
-all_output bundle bound bytes = own_of (replies writing (opening bundle bound) (commands_in bytes))
+all_output bundle bound bytes = all_output_with bundle bound (commands_in bytes)
 
 abbrev pub UnlessEnded : Option SessionEnd → Type 0 → Type 0
 UnlessEnded (Some end) Later = Unit {0}

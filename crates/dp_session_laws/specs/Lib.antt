@@ -1,2 +1,4 @@
 pub mod AllOutput
+pub mod Passed
+pub mod Pieces
 pub mod Shown
