@@ -128,7 +128,7 @@ fn go_on_watched<L: Ledger>(
     let mut all = [0; MOST_LINES];
     let count = lines_of(breaks.list(), &mut all);
     let lines = &all[..count];
-    let due = due_by(bundle, breaks.list());
+    let due = due_by(mode, bundle, lines, breaks.list());
     let mut loud = None;
     for passed in 0..u64::MAX {
         look(machine, lines, passed == due, &mut loud)?;

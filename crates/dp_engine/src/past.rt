@@ -20,8 +20,11 @@ use std::sync::ledger::Ledger;
 /// At most so many breakpoints on lines are looked for in statements.
 pub(crate) const MOST_LINES: usize = 16;
 
-/// Where a program has at most so many functions, calls are looked at before a command passes its first moment.
-const FEW_FUNCTIONS: u64 = 8;
+/// Where a program has at most so many bytes, calls are looked at before a command passes its first moment.
+const SHORT_PROGRAM: u64 = 4096;
+
+/// To look at so many bytes of a program takes no longer than one moment that is passed by itself.
+const BYTES_A_MOMENT: u64 = 64;
 
 /// A machine goes on to the next moment, or to the end. Where only breakpoints stop it, moments before a statement, a
 /// test or a binding may be passed that are on no line of an enabled breakpoint, and so may calls, where it is known
@@ -62,23 +65,26 @@ pub(crate) fn look<'p>(
     Ok(())
 }
 
-/// How many moments a command passes one by one before calls are looked at: none in a small program, and else some four
-/// for each function, so that the look costs no more than what was passed. Never where a breakpoint on a function is
-/// enabled.
-pub(crate) fn due_by(bundle: &Bundle, held: &[Breakpoint]) -> u64 {
-    for breakpoint in held {
-        if breakpoint.enabled && is_of_function(breakpoint.kind) {
-            return u64::MAX;
-        }
+/// How many moments a command passes one by one before calls are looked at: none in a short program, and else so many
+/// that the look costs no more than they did. Never where the command, or a breakpoint on a function or on none of
+/// these lines, has each moment looked at.
+pub(crate) fn due_by(
+    mode: Continuation,
+    bundle: &Bundle,
+    lines: &[u32],
+    held: &[Breakpoint],
+) -> u64 {
+    if !are_seen(mode, lines, true, held) {
+        return u64::MAX;
     }
-    let mut count: u64 = 0;
+    let mut bytes: u64 = 0;
     for file in bundle.files.as_slice() {
-        count = count.saturating_add(file.tree.functions.as_slice().len() as u64);
+        bytes = bytes.saturating_add(file.text.as_slice().len() as u64);
     }
-    if count <= FEW_FUNCTIONS {
+    if bytes <= SHORT_PROGRAM {
         0
     } else {
-        count.saturating_mul(4)
+        bytes / BYTES_A_MOMENT
     }
 }
 
