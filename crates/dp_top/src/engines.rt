@@ -1,5 +1,5 @@
 //! The engines of a program, for a replay.
-ghost use Rattle.std.specs.Prelude.{◌≡◌, ◌≤◌, Some, map, IfOk};
+ghost use Rattle.std.specs.Prelude.{◌≡◌, ◌≤◌, Some, false, map, IfOk, OnOk};
 ghost use Rattle.dp_engine.specs.Session.{outcome_of, unwritten};
 ghost use Rattle.dp_outside.specs.Changes.{change};
 ghost use Rattle.dp_top.specs.Engines.{engines_of};
@@ -44,7 +44,7 @@ impl<'a, L: Ledger> Model for Debugged<'a, L> {
 }
 
 impl<'a, L: Ledger> Engines for Debugged<'a, L> {
-    ghost use Rattle.std.specs.Prelude.{◌≡◌, IfOk};
+    ghost use Rattle.std.specs.Prelude.{◌≡◌, IfOk, IfSome, false};
     ghost use Rattle.dp_engine.specs.Served.{ending_after, rest_after};
     ghost use Rattle.dp_top.specs.Engines.{engines_of};
 
@@ -55,6 +55,8 @@ impl<'a, L: Ledger> Engines for Debugged<'a, L> {
     type Steps = Steps<L>;
 
     ghost known = { λ d. engines_of d.0 d.1 };
+
+    ghost failed = { λ s. s.failed };
 
     /// Its session, and the text of its first packet.
     fn begin(&self, alloc: Global, key: &[u8]) -> Result<(Session<'a>, Bytes), Memory> {
@@ -82,6 +84,7 @@ impl<'a, L: Ledger> Engines for Debugged<'a, L> {
     ) -> Result<(Bytes, Option<Outcome>), Memory>
         ensures rest { IfOk result (λ end. end.0 ≡ rest_after ended session.entry) }
         ensures outcome { IfOk result (λ end. end.1 ≡ ending_after ended session.entry) }
+        ensures stays { IfOk result (λ end. IfSome end.1 (λ outcome. session.entry.failed ≡ false)) }
     {
         match ended {
             Some(SessionEnd::Killed) => {
@@ -102,6 +105,7 @@ fn run_on<L: Ledger>(
 ) -> Result<(Bytes, Option<Outcome>), Memory>
     ensures rest { IfOk result (λ end. end.0 ≡ unwritten session.entry) }
     ensures outcome { IfOk result (λ end. end.1 ≡ Some (outcome_of session.entry)) }
+    ensures stays { OnOk result (session.entry.failed ≡ false) }
 {
     let (rest, outcome) = session.finish(steps)?;
     Ok((rest, Some(outcome)))
