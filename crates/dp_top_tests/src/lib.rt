@@ -1,5 +1,12 @@
-//! Tests of the top call over the network of the system. A crate with tests is proved twice, so they stand apart.
+//! Tests of the top call over the network of the system, in threads. A crate with tests is proved twice, so they stand
+//! apart.
 #![tactic(auto)]
 
+#[cfg(test)]
+mod calls;
+#[cfg(test)]
+mod peers;
+#[cfg(test)]
+mod proxies;
 #[cfg(test)]
 mod tests;
