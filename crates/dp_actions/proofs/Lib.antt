@@ -5,7 +5,6 @@ pub mod Layers
 pub mod StatementLayers
 pub mod AfterBodies
 pub mod Texts
-pub mod EntryReads
 pub mod PureParts
 pub mod ObservedValues
 pub mod MissingPlaces

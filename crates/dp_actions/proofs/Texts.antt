@@ -1,13 +1,12 @@
 -- Texts that are joined, and texts that grow in a variable.
-use Rattle.std.proofs.Common.{◌≡◌, ℕ, Bool, true, false, not, cond, nat_le, List, [], ◌++◌, length, Result, Ok, Err, refl, sym, ap, ◌∙◌}
+use Rattle.std.proofs.Common.{◌≡◌, ℕ, Bool, true, false, not, cond, nat_le, List, [], ◌++◌, length, Result, Ok, Err, refl, sym, ap}
 use Rattle.dp_value.specs.declared.errors.ValueError.TheVariants.{TooHeavy}
 use Rattle.dp_value.specs.declared.errors.WriteError.TheVariants as write
 use Rattle.dp_value.specs.declared.value.Value.{Value}
 use Rattle.dp_value.specs.declared.value.Value.TheVariants.{Text}
-use Rattle.dp_value.specs.Data.{text, weight_of}
+use Rattle.dp_value.specs.Data.{text}
 use Rattle.dp_value.specs.Table.{weight_limit}
 use Rattle.dp_value.specs.Value.{data_of, value_of}
-use Rattle.dp_shared.specs.Pieces.{with_piece}
 use Rattle.dp_operations.specs.Text.{light_text, text_of}
 use Rattle.dp_state.specs.declared.moments.FatalKind.{FatalKind}
 use Rattle.dp_state.specs.declared.moments.FatalKind.TheVariants as kind
@@ -34,42 +33,28 @@ module _ (bytes : List ℕ) (s : State) where
   heavy-by true h = absurd (cc)
   heavy-by false h = ends
 
--- a text that stands for a value, with a piece behind it
-module _ (v t : Value) (piece : List ℕ) (s : State) (is : t ≡ Text (text_of (data_of v))) where
-  whole : with_piece t piece ≡ Text (text_of (data_of v) ++ piece)
-  whole = ap (λ (w : Value). with_piece w piece) is
-
-  weighs : (b : Bool) → not (nat_le (weight_of (data_of (with_piece t piece))) weight_limit) ≡ b
-      → not (nat_le (length (text_of (data_of v) ++ piece)) weight_limit) ≡ b
-  weighs b h = sym (ap (λ (w : Value). not (nat_le (weight_of (data_of w)) weight_limit)) whole) ∙ h
-
-  pub joins : not (nat_le (weight_of (data_of (with_piece t piece))) weight_limit) ≡ false
-      → AtOnce (value_run (light_text (text_of (data_of v) ++ piece)) s) (Ok (with_piece t piece)) s
+-- a text with a piece behind it
+module _ (v : Value) (bytes piece : List ℕ) (s : State) (is : bytes ≡ text_of (data_of v)) where
+  pub joins : not (nat_le (length (bytes ++ piece)) weight_limit) ≡ false
+      → AtOnce (value_run (light_text (text_of (data_of v) ++ piece)) s) (Ok (Text (bytes ++ piece))) s
   joins h =
-      rw whole (light-by (text_of (data_of v) ++ piece) s (nat_le (length (text_of (data_of v) ++ piece)) weight_limit)
-      (weighs false h))
+      rw is (light-by (text_of (data_of v) ++ piece) s (nat_le (length (text_of (data_of v) ++ piece)) weight_limit)
+      (rw is at h))
 
-  pub joins-not : not (nat_le (weight_of (data_of (with_piece t piece))) weight_limit) ≡ true
+  pub joins-not : not (nat_le (length (bytes ++ piece)) weight_limit) ≡ true
       → AtOnce (value_run (light_text (text_of (data_of v) ++ piece)) s) (Err (halt_of (fault.Fatal kind.TooHeavy) s)) s
   joins-not h =
       heavy-by (text_of (data_of v) ++ piece) s (nat_le (length (text_of (data_of v) ++ piece)) weight_limit)
-      (weighs true h)
+      (rw is at h)
 
 -- a variable that gets a text with a piece behind it
-module _ (name : List ℕ) (t : Value) (piece bytes : List ℕ) (is : t ≡ Text bytes) (s u : State) where
+module _ (name bytes piece : List ℕ) (s u : State) where
   abbrev grown : Run Value
   grown = and_then (value_run (light_text (bytes ++ piece)) s) (λ new w. assign_run name [] false new w)
 
   abbrev written : Bool → Result State FatalKind
   written b =
       then_state (cond b (Ok (text (bytes ++ piece))) (Err write.TooHeavy)) (λ d. with_value 0 name (value_of d) s)
-
-  longer : with_piece t piece ≡ Text (bytes ++ piece)
-  longer = ap (λ (w : Value). with_piece w piece) is
-
-  assigned-is : assigned 0 name [] false (with_piece t piece) s ≡ written
-      (nat_le (length (bytes ++ piece)) weight_limit)
-  assigned-is = ap (λ (w : Value). assigned 0 name [] false w s) longer
 
   ok-by : (b : Bool) → nat_le (length (bytes ++ piece)) weight_limit ≡ b
       → assigned 0 name [] false (Text (bytes ++ piece)) s ≡ Ok u → written b ≡ Ok u
@@ -79,11 +64,9 @@ module _ (name : List ℕ) (t : Value) (piece bytes : List ℕ) (is : t ≡ Text
       (goes_on _ (step-ok s _ u all) gives)
   ok-by false h all ok = absurd (cc)
 
-  pub grows : assigned 0 name [] false (with_piece t piece) s ≡ Ok u → AtOnce grown (Ok (with_piece t piece)) u
-  grows ok =
-      rw longer (ok-by (nat_le (length (bytes ++ piece)) weight_limit) refl
-      (sym (ap (λ (w : Value). assigned 0 name [] false w s) longer) ∙ ok)
-      (sym assigned-is ∙ ok))
+  pub grows : assigned 0 name [] false (Text (bytes ++ piece)) s ≡ Ok u
+      → AtOnce grown (Ok (Text (bytes ++ piece))) u
+  grows ok = ok-by (nat_le (length (bytes ++ piece)) weight_limit) refl ok ok
 
   fault-by : (b : Bool) (k : FatalKind) → nat_le (length (bytes ++ piece)) weight_limit ≡ b → written b ≡ Err k
       → AtOnce grown (Err (halt_of (fault.Fatal k) s)) s
@@ -94,8 +77,8 @@ module _ (name : List ℕ) (t : Value) (piece bytes : List ℕ) (is : t ≡ Text
       (ap not h)))
 
   -- refused, and the state is as before where it is not that memory ran out
-  pub grows-not : (why : Fault) → IsCause (assigned 0 name [] false (with_piece t piece) s) why
+  pub grows-not : (why : Fault) → IsCause (assigned 0 name [] false (Text (bytes ++ piece)) s) why
       → (IsFatal {A = Value} (Err why) → u ≡ s) → AtOnce grown (Err (halt_of why u)) u
   grows-not fault.Memory refused same = wants_memory
   grows-not (fault.Fatal k) refused same =
-      rw (same tt) (fault-by (nat_le (length (bytes ++ piece)) weight_limit) k refl (sym assigned-is ∙ refused))
+      rw (same tt) (fault-by (nat_le (length (bytes ++ piece)) weight_limit) k refl refused)

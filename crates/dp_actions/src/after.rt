@@ -19,19 +19,18 @@ use crate::joins::operated;
 use crate::places::{assign_place, is_missing_place};
 use crate::signal::Signal;
 use dp_operations::unary;
-use dp_shared::Shared;
 use dp_state::State;
 use dp_tree::{BinaryOp, Order, UnaryOp};
 use dp_value::{Bytes, Items, Value, truthy};
 use std::alloc::Global;
 
 /// The value of an operator with one operand.
-pub fn then_unary(op: UnaryOp, operand: Result<Shared, Halt>, state: &State) -> Result<Shared, Halt>
+pub fn then_unary(op: UnaryOp, operand: Result<Value, Halt>, state: &State) -> Result<Value, Halt>
     ensures { Then operand (λ v s. value_run (unary_of op (data_of v)) s) state.now result state.now }
 {
     match operand {
         Ok(value) => {
-            let answer = value_of(unary(op, value.value()), state);
+            let answer = value_of(unary(op, &value), state);
             drop(value);
             answer
         }
@@ -43,15 +42,15 @@ pub fn then_unary(op: UnaryOp, operand: Result<Shared, Halt>, state: &State) -> 
 pub fn then_binary(
     alloc: Global,
     op: BinaryOp,
-    left: Shared,
-    right: Result<Shared, Halt>,
+    left: Value,
+    right: Result<Value, Halt>,
     state: &State,
-) -> Result<Shared, Halt>
+) -> Result<Value, Halt>
     ensures { Then right (λ v s. value_run (binary_of op (data_of left) (data_of v)) s) state.now result state.now }
 {
     match right {
         Ok(value) => {
-            let answer = operated(alloc, op, left, value.value(), state);
+            let answer = operated(alloc, op, left, &value, state);
             drop(value);
             answer
         }
@@ -63,12 +62,12 @@ pub fn then_binary(
 }
 
 /// Whether a value holds.
-pub fn then_holds(value: Result<Shared, Halt>) -> Result<bool, Halt>
+pub fn then_holds(value: Result<Value, Halt>) -> Result<bool, Halt>
     ensures { (s : AnyState) → Then value (λ v t. Done (holds v) t) s result s }
 {
     match value {
         Ok(value) => {
-            let holds = truthy(value.value());
+            let holds = truthy(&value);
             drop(value);
             Ok(holds)
         }
@@ -77,26 +76,26 @@ pub fn then_holds(value: Result<Shared, Halt>) -> Result<bool, Halt>
 }
 
 /// Whether a value holds, as a value.
-pub fn then_truth(value: Result<Shared, Halt>) -> Result<Shared, Halt>
+pub fn then_truth(value: Result<Value, Halt>) -> Result<Value, Halt>
     ensures { (s : AnyState) → Then value (λ v t. Done (variant.Bool (holds v)) t) s result s }
 {
     match value {
         Ok(value) => {
-            let holds = truthy(value.value());
+            let holds = truthy(&value);
             drop(value);
-            Ok(Shared::of(Value::Bool(holds)))
+            Ok(Value::Bool(holds))
         }
         Err(halt) => Err(halt),
     }
 }
 
 /// Writes the text of a value.
-pub fn then_print(alloc: Global, value: Result<Shared, Halt>, state: &mut State) -> Result<(), Halt>
+pub fn then_print(alloc: Global, value: Result<Value, Halt>, state: &mut State) -> Result<(), Halt>
     ensures { Then value print_run state.old result state.new }
 {
     match value {
         Ok(value) => {
-            let answer = print_value(alloc, value.value(), state);
+            let answer = print_value(alloc, &value, state);
             drop(value);
             answer
         }
@@ -105,12 +104,12 @@ pub fn then_print(alloc: Global, value: Result<Shared, Halt>, state: &mut State)
 }
 
 /// Ends the program with a value.
-pub fn then_exit(value: Result<Shared, Halt>, state: &mut State) -> Result<Signal, Halt>
+pub fn then_exit(value: Result<Value, Halt>, state: &mut State) -> Result<Signal, Halt>
     ensures { Then value exit_run state.old result state.new }
 {
     match value {
         Ok(value) => {
-            let answer = exit_value(value.value(), state);
+            let answer = exit_value(&value, state);
             drop(value);
             answer
         }
@@ -119,7 +118,7 @@ pub fn then_exit(value: Result<Shared, Halt>, state: &mut State) -> Result<Signa
 }
 
 /// On with the next statement.
-pub fn then_next(value: Result<Shared, Halt>) -> Result<Signal, Halt>
+pub fn then_next(value: Result<Value, Halt>) -> Result<Signal, Halt>
     ensures { (s : AnyState) → Then value (λ _ t. Done way.Next t) s result s }
 {
     match value {
@@ -132,7 +131,7 @@ pub fn then_next(value: Result<Shared, Halt>) -> Result<Signal, Halt>
 }
 
 /// Out of the function or the file, with a value.
-pub fn then_return(value: Result<Shared, Halt>) -> Result<Signal, Halt>
+pub fn then_return(value: Result<Value, Halt>) -> Result<Signal, Halt>
     ensures { (s : AnyState) → Then value (λ v t. Done (way.Return v) t) s result s }
 {
     match value {
@@ -158,7 +157,7 @@ pub fn then_signal(done: Result<(), Halt>, signal: Signal) -> Result<Signal, Hal
 pub fn then_missing(
     alloc: Global,
     name: &Bytes,
-    indices: Result<Items<Shared>, Halt>,
+    indices: Result<Items<Value>, Halt>,
     state: &State,
 ) -> Result<bool, Halt>
     ensures { Then indices (λ values s. missing_run name.now values s) state.now result state.now }
@@ -179,9 +178,9 @@ pub fn then_step(
     op: UnaryOp,
     order: Order,
     name: &Bytes,
-    indices: Result<Items<Shared>, Halt>,
+    indices: Result<Items<Value>, Halt>,
     state: &mut State,
-) -> Result<Shared, Halt>
+) -> Result<Value, Halt>
     ensures { Then indices (λ values s. step_under op order name.now values s) state.old result state.new }
 {
     match indices {
@@ -198,11 +197,11 @@ pub fn then_step(
 pub fn then_assign(
     alloc: Global,
     name: &Bytes,
-    indices: &[Shared],
+    indices: &[Value],
     push: bool,
-    value: Result<Shared, Halt>,
+    value: Result<Value, Halt>,
     state: &mut State,
-) -> Result<Shared, Halt>
+) -> Result<Value, Halt>
     ensures { Then value (λ v s. assign_run name.now indices.now push v s) state.old result state.new }
 {
     match value {
@@ -216,16 +215,16 @@ pub fn then_combine(
     alloc: Global,
     op: BinaryOp,
     name: &Bytes,
-    indices: &[Shared],
-    old: Shared,
-    value: Result<Shared, Halt>,
+    indices: &[Value],
+    old: Value,
+    value: Result<Value, Halt>,
     state: &mut State,
-) -> Result<Shared, Halt>
+) -> Result<Value, Halt>
     ensures { Then value (λ v s. combined op name.now indices.now old v s) state.old result state.new }
 {
     match value {
         Ok(value) => {
-            let answer = combine(alloc, op, name, indices, old, value.value(), state);
+            let answer = combine(alloc, op, name, indices, old, &value, state);
             drop(value);
             answer
         }

@@ -16,18 +16,17 @@ use crate::faults::{fatal, fault, settled};
 use crate::halt::Halt;
 use crate::signal::Signal;
 use dp_operations::text;
-use dp_shared::Shared;
 use dp_state::{FatalKind, Fault, Outcome, State};
 use dp_value::{CallError, Value, ValueError};
 use std::alloc::Global;
 
 /// The value of an operation.
-pub fn value_of(answer: Result<Value, ValueError>, state: &State) -> Result<Shared, Halt>
+pub fn value_of(answer: Result<Value, ValueError>, state: &State) -> Result<Value, Halt>
     ensures { (table : Result Data Refusal) → Answers answer table
         → AtOnce (value_run table state.now) result state.now }
 {
     match answer {
-        Ok(value) => Ok(Shared::of(value)),
+        Ok(value) => Ok(value),
         Err(why) => Err(fault(Fault::from(why), state)),
     }
 }
@@ -44,12 +43,12 @@ pub(crate) fn missing_of(answer: Result<bool, ValueError>, state: &State) -> Res
 }
 
 /// The value of a built-in function.
-pub fn builtin_value(answer: Result<Value, CallError>, state: &State) -> Result<Shared, Halt>
+pub fn builtin_value(answer: Result<Value, CallError>, state: &State) -> Result<Value, Halt>
     ensures { (table : Result Data CallRefusal) → CallAnswers answer table
         → AtOnce (builtin_run table state.now) result state.now }
 {
     match answer {
-        Ok(value) => Ok(Shared::of(value)),
+        Ok(value) => Ok(value),
         Err(why) => Err(fault(Fault::from(why), state)),
     }
 }

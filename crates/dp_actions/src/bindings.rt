@@ -10,7 +10,6 @@ ghost use Rattle.dp_actions.specs.Effects.{with_globals};
 
 use crate::halt::Halt;
 use crate::places::assign_variable;
-use dp_shared::Shared;
 use dp_state::State;
 use dp_tree::Binding;
 use dp_value::{Bytes, Key, PhpArray, Value};
@@ -39,7 +38,7 @@ pub fn bind_entry(
 fn bind_value(name: &Bytes, value: &Value, state: &mut State) -> Result<(), Halt>
     ensures { AtOnce (bind_name name.now value.now state.old) result state.new }
 {
-    assign_variable(name, Shared::of(value.try_clone()?), state)
+    assign_variable(name, value.try_clone()?, state)
 }
 
 /// Binds the key of an entry.
@@ -48,7 +47,7 @@ fn bind_key(name: &Option<Bytes>, key: &Key, state: &mut State) -> Result<(), Ha
 {
     match name {
         None => Ok(()),
-        Some(name) => assign_variable(name, Shared::of(key.to_value()?), state),
+        Some(name) => assign_variable(name, key.to_value()?, state),
     }
 }
 

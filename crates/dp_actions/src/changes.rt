@@ -12,7 +12,6 @@ use crate::halt::Halt;
 use crate::joins::{grown, operated};
 use crate::places::{assign_place, read_place};
 use dp_operations::unary;
-use dp_shared::Shared;
 use dp_state::State;
 use dp_tree::{BinaryOp, Order, UnaryOp};
 use dp_value::{Bytes, Value};
@@ -23,11 +22,11 @@ pub fn combine(
     alloc: Global,
     op: BinaryOp,
     name: &Bytes,
-    indices: &[Shared],
-    old: Shared,
+    indices: &[Value],
+    old: Value,
     value: &Value,
     state: &mut State,
-) -> Result<Shared, Halt>
+) -> Result<Value, Halt>
     ensures { AtOnce (combined op name.now indices.now old value.now state.old) result state.new }
 {
     if is_growth(op, indices) {
@@ -38,7 +37,7 @@ pub fn combine(
 }
 
 /// Whether a text is put behind what a whole variable holds.
-fn is_growth(op: BinaryOp, indices: &[Shared]) -> bool
+fn is_growth(op: BinaryOp, indices: &[Value]) -> bool
     ensures { IsTrue result → (op ≡ operator.Concat) × (indices.now ≡ []) }
 {
     match op {
@@ -53,9 +52,9 @@ pub fn step_place(
     op: UnaryOp,
     order: Order,
     name: &Bytes,
-    indices: &[Shared],
+    indices: &[Value],
     state: &mut State,
-) -> Result<Shared, Halt>
+) -> Result<Value, Halt>
     ensures { AtOnce (step_under op order name.now indices.now state.old) result state.new }
 {
     let old = read_place(alloc, name, indices, state)?;
@@ -68,13 +67,13 @@ fn step_from(
     op: UnaryOp,
     order: Order,
     name: &Bytes,
-    indices: &[Shared],
-    old: Shared,
+    indices: &[Value],
+    old: Value,
     state: &mut State,
-) -> Result<Shared, Halt>
+) -> Result<Value, Halt>
     ensures { AtOnce (from_old op order name.now indices.now old state.old) result state.new }
 {
-    let new = value_of(unary(op, old.value()), state)?;
+    let new = value_of(unary(op, &old), state)?;
     write_step(alloc, order, name, indices, old, new, state)
 }
 
@@ -83,11 +82,11 @@ fn write_step(
     alloc: Global,
     order: Order,
     name: &Bytes,
-    indices: &[Shared],
-    old: Shared,
-    new: Shared,
+    indices: &[Value],
+    old: Value,
+    new: Value,
     state: &mut State,
-) -> Result<Shared, Halt>
+) -> Result<Value, Halt>
     ensures { AtOnce (step_written order name.now indices.now old new state.old) result state.new }
 {
     let new = assign_place(alloc, name, indices, false, new, state)?;
@@ -95,7 +94,7 @@ fn write_step(
 }
 
 /// The value of a `++` or `--`.
-fn ordered(order: Order, old: Shared, new: Shared) -> Shared
+fn ordered(order: Order, old: Value, new: Value) -> Value
     ensures { result ≡ stepped order old new }
 {
     match order {

@@ -9,7 +9,6 @@ ghost use Rattle.dp_actions.specs.Values.{write_run};
 
 use crate::halt::Halt;
 use crate::items::{pushed, put};
-use dp_shared::Shared;
 use dp_state::State;
 use dp_value::Value;
 use std::alloc::Global;
@@ -18,7 +17,7 @@ use std::alloc::Global;
 pub fn then_pushed(
     alloc: Global,
     array: Value,
-    value: Result<Shared, Halt>,
+    value: Result<Value, Halt>,
     state: &State,
 ) -> Result<Value, Halt>
     ensures { Then value (λ v s. write_run (write_result [] true (data_of v) (data_of array)) s) state.now result
@@ -38,7 +37,7 @@ pub fn then_put(
     alloc: Global,
     array: Value,
     index: &Value,
-    value: Result<Shared, Halt>,
+    value: Result<Value, Halt>,
     state: &State,
 ) -> Result<Value, Halt>
     ensures { Then value (λ v s. write_run (write_result (keys_of_indices (index.now ∷ [])) false (data_of v)

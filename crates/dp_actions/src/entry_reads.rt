@@ -13,7 +13,6 @@ ghost use Rattle.dp_actions.specs.Values.{builtin_run};
 use crate::answers::{builtin_value, is_missing};
 use crate::halt::Halt;
 use dp_operations::{Found, builtin, copy, find, index, under};
-use dp_shared::Shared;
 use dp_state::State;
 use dp_tree::Builtin;
 use dp_value::{Memory, Value, ValueError};
@@ -46,19 +45,19 @@ pub fn look(alloc: Global, reading: Reading, value: &Value, at: &Value) -> Resul
     }
 }
 
-/// The entry of a value under indices. What stands on the way to it is not copied.
+/// The entry of a value under indices. What it holds is not copied.
 pub fn entry_by(
     alloc: Global,
     reading: Reading,
     holder: &Value,
-    indices: &[Shared],
+    indices: &[Value],
 ) -> Result<Value, ValueError>
     ensures { Answers result (read_under (entries_by reading) (map data_of indices.now) (data_of holder.now)) }
 {
     let Some((index, rest)) = indices.split_first() else {
         return Ok(holder.try_clone()?);
     };
-    match under(alloc, holder, index.value(), is_plain(reading)) {
+    match under(holder, index, is_plain(reading)) {
         Ok(Found::Entry(value)) => entry_by(alloc, reading, value, rest),
         Ok(found) => {
             let value = copy(alloc, found)?;
@@ -72,14 +71,14 @@ pub fn entry_by(
 pub(crate) fn is_missing_by(
     alloc: Global,
     holder: &Value,
-    indices: &[Shared],
+    indices: &[Value],
 ) -> Result<bool, ValueError>
     ensures { AnswersMissing result (found_by (map data_of indices.now) (data_of holder.now)) }
 {
     let Some((index, rest)) = indices.split_first() else {
         return Ok(is_missing(holder));
     };
-    match under(alloc, holder, index.value(), false) {
+    match under(holder, index, false) {
         Ok(Found::Entry(value)) => is_missing_by(alloc, value, rest),
         Ok(found) => {
             let value = copy(alloc, found)?;
@@ -93,9 +92,9 @@ pub(crate) fn is_missing_by(
 pub fn builtin_call(
     alloc: Global,
     function: Builtin,
-    values: &[Shared],
+    values: &[Value],
     state: &State,
-) -> Result<Shared, Halt>
+) -> Result<Value, Halt>
     ensures { AtOnce (builtin_run (builtin_of function (map data_of values.now)) state.now) result state.now }
 {
     let lent = lent(alloc, values)?;
@@ -103,12 +102,12 @@ pub fn builtin_call(
 }
 
 /// These values, lent.
-fn lent(alloc: Global, values: &[Shared]) -> Result<Vec<&Value>, Memory>
+fn lent(alloc: Global, values: &[Value]) -> Result<Vec<&Value>, Memory>
     ensures { IfOk result (λ lent. map (λ a. data_of a.now) lent.items ≡ map data_of values.now) }
 {
     let mut lent = Vec::with_capacity(alloc, values.len())?;
     for value in values {
-        lent.push(value.value())?;
+        lent.push(value)?;
     }
     Ok(lent)
 }

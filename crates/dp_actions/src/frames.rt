@@ -15,7 +15,6 @@ use crate::faults::{fatal, settled};
 use crate::halt::Halt;
 use crate::signal::Signal;
 use dp_operations::text;
-use dp_shared::Shared;
 use dp_state::{FatalKind, State};
 use dp_tree::{Bundle, Function, Inclusion, Statement};
 use dp_value::{Items, Memory, Value};
@@ -25,7 +24,7 @@ use std::alloc::Global;
 pub fn enter_call(
     file: u32,
     function: &Function,
-    values: Items<Shared>,
+    values: Items<Value>,
     state: &mut State,
 ) -> Result<(), Halt>
     ensures { AtOnce (taken (called file function.now values state.old) state.old) result state.new }
@@ -53,17 +52,17 @@ pub fn file_named_by(alloc: Global, bundle: &Bundle, name: &Value) -> Result<Opt
 }
 
 /// What the inclusion of a missing file gives.
-pub fn not_included(how: Inclusion, state: &State) -> Result<Shared, Halt>
+pub fn not_included(how: Inclusion, state: &State) -> Result<Value, Halt>
     ensures { (setting : Setting) → AtOnce (inclusion_run how None setting state.now) result state.now }
 {
     match how {
-        Inclusion::Include => Ok(Shared::of(Value::Bool(false))),
+        Inclusion::Include => Ok(Value::Bool(false)),
         Inclusion::Require => Err(fatal(FatalKind::NoFile, state)),
     }
 }
 
 /// What a body gives: its return value, or this where it has none.
-pub fn returned(none: Shared, signal: Signal) -> Shared
+pub fn returned(none: Value, signal: Signal) -> Value
     ensures { result ≡ value_returned none signal }
 {
     match signal {

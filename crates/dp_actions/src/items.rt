@@ -10,27 +10,13 @@ ghost use Rattle.dp_actions.specs.Values.{write_run};
 use crate::faults::fault;
 use crate::halt::Halt;
 use crate::places::key_at;
-use dp_shared::Shared;
 use dp_state::{Fault, State};
 use dp_value::{Key, Value, write_at};
 use std::alloc::Global;
 use std::slice;
 
 /// An array with a value behind its last.
-pub fn pushed(alloc: Global, array: Value, value: Shared, state: &State) -> Result<Value, Halt>
-    ensures { AtOnce (write_run (write_result [] true (data_of value) (data_of array)) state.now) result state.now }
-{
-    match value.into_value() {
-        Ok(value) => put_last(alloc, array, value, state),
-        Err(_) => {
-            drop(array);
-            Err(Halt::Memory)
-        }
-    }
-}
-
-/// The same of a value that has no other owner.
-fn put_last(alloc: Global, array: Value, value: Value, state: &State) -> Result<Value, Halt>
+pub fn pushed(alloc: Global, array: Value, value: Value, state: &State) -> Result<Value, Halt>
     ensures { AtOnce (write_run (write_result [] true (data_of value) (data_of array)) state.now) result state.now }
 {
     let mut longer = array;
@@ -48,37 +34,17 @@ pub fn put(
     alloc: Global,
     array: Value,
     index: &Value,
-    value: Shared,
+    value: Value,
     state: &State,
 ) -> Result<Value, Halt>
     ensures { AtOnce (write_run (write_result (keys_of_indices (index.now ∷ [])) false (data_of value)
         (data_of array)) state.now) result state.now }
 {
-    let key = key_at(alloc, index)?;
-    put_shared(alloc, array, &key, value, state)
+    let key = key_at(index)?;
+    put_under(alloc, array, &key, value, state)
 }
 
 /// An array with a value under a key.
-fn put_shared(
-    alloc: Global,
-    array: Value,
-    key: &Option<Key>,
-    value: Shared,
-    state: &State,
-) -> Result<Value, Halt>
-    ensures { AtOnce (write_run (write_result (key.now ∷ []) false (data_of value) (data_of array)) state.now) result
-        state.now }
-{
-    match value.into_value() {
-        Ok(value) => put_under(alloc, array, key, value, state),
-        Err(_) => {
-            drop(array);
-            Err(Halt::Memory)
-        }
-    }
-}
-
-/// The same of a value that has no other owner.
 fn put_under(
     alloc: Global,
     array: Value,

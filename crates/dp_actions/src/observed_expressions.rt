@@ -7,7 +7,6 @@ use crate::entry_reads::Reading;
 use crate::halt::Halt;
 use crate::observer::Observer;
 use crate::operands::{text_value, variable_value};
-use dp_shared::Shared;
 use dp_tree::Expression;
 use dp_value::{Items, Value};
 
@@ -20,15 +19,15 @@ impl Observer<'_> {
 
     /// The value of an expression.
     #[cycle(observe)]
-    pub(crate) fn expression(&self, e: &Expression) -> Result<Shared, Halt>
+    pub(crate) fn expression(&self, e: &Expression) -> Result<Value, Halt>
         requires { is_pure e.now ≡ true }
         ensures { Observed (expression_run e.now).value result self.now.state.now }
     {
         match e {
-            Expression::Null => Ok(Shared::of(Value::Null)),
-            Expression::Bool(b) => Ok(Shared::of(Value::Bool(*b))),
-            Expression::Number(n) => Ok(Shared::of(Value::Int(*n))),
-            Expression::Text(bytes) => text_value(bytes),
+            Expression::Null => Ok(Value::Null),
+            Expression::Bool(b) => Ok(Value::Bool(*b)),
+            Expression::Number(n) => Ok(Value::Int(*n)),
+            Expression::Text(bytes) => text_value(self.alloc, bytes),
             Expression::Variable(name) => variable_value(name, self.state),
             Expression::Array(items) => self.array(items.as_slice()),
             Expression::Isset(places) => self.isset(places.as_slice()),
@@ -55,7 +54,7 @@ impl Observer<'_> {
 
     /// The value of an expression to the left of `??`.
     #[cycle(observe)]
-    pub(crate) fn found(&self, e: &Expression) -> Result<Shared, Halt>
+    pub(crate) fn found(&self, e: &Expression) -> Result<Value, Halt>
         requires { is_pure e.now ≡ true }
         ensures { Observed (expression_run e.now).found result self.now.state.now }
     {
@@ -69,7 +68,7 @@ impl Observer<'_> {
 
     /// The values of expressions, one after another.
     #[cycle(observe)]
-    pub(crate) fn values(&self, all: &[Expression]) -> Result<Items<Shared>, Halt>
+    pub(crate) fn values(&self, all: &[Expression]) -> Result<Items<Value>, Halt>
         requires { list_all is_pure all.now ≡ true }
         ensures { Observed (evaluations all.now) result self.now.state.now }
     {

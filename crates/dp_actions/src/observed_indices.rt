@@ -5,9 +5,8 @@
 use crate::after::then_missing;
 use crate::entry_reads::Reading;
 use crate::halt::Halt;
-use crate::inside::then_inside;
+use crate::indices::then_entry;
 use crate::observer::Observer;
-use dp_shared::{Inside, Shared};
 use dp_tree::{Expression, Place};
 use dp_value::Value;
 
@@ -29,7 +28,7 @@ impl Observer<'_> {
         reading: Reading,
         base: &Expression,
         indices: &[Expression],
-    ) -> Result<Shared, Halt>
+    ) -> Result<Value, Halt>
         requires base { is_pure base.now ≡ true }
         requires indices { list_all is_pure indices.now ≡ true }
         ensures { Observed (entry_under reading (expression_run base.now) (map expression_run indices.now)) result
@@ -41,7 +40,7 @@ impl Observer<'_> {
 
     /// The value of what indices stand behind.
     #[cycle(observe)]
-    fn base(&self, reading: Reading, e: &Expression) -> Result<Shared, Halt>
+    fn base(&self, reading: Reading, e: &Expression) -> Result<Value, Halt>
         requires { is_pure e.now ≡ true }
         ensures { Observed (base_run reading (expression_run e.now)) result self.now.state.now }
     {
@@ -53,32 +52,32 @@ impl Observer<'_> {
 
     /// A value under indices.
     #[cycle(observe)]
-    fn under(&self, reading: Reading, base: Shared, indices: &[Expression]) -> Result<Shared, Halt>
+    fn under(&self, reading: Reading, base: Value, indices: &[Expression]) -> Result<Value, Halt>
         requires { list_all is_pure indices.now ≡ true }
         ensures { Observed (indices_run (entries_by reading) (map expression_run indices.now) base) result
             self.now.state.now }
     {
-        let mut inside = Inside::of(self.alloc, base);
+        let mut value = base;
         for e in indices {
             let at = self.expression(e);
-            inside = then_inside(self.alloc, reading, inside, at, self.state)?;
+            value = then_entry(self.alloc, reading, value, at, self.state)?;
         }
-        Ok(inside.into_shared()?)
+        Ok(value)
     }
 
     /// `isset`
     #[cycle(observe)]
-    pub(crate) fn isset(&self, places: &[Place]) -> Result<Shared, Halt>
+    pub(crate) fn isset(&self, places: &[Place]) -> Result<Value, Halt>
         requires { list_all place_is_pure places.now ≡ true }
         ensures { Observed (isset_run (map place_run places.now)) result self.now.state.now }
     {
         for place in places {
             let missing = self.missing_at(place)?;
             if missing {
-                return Ok(Shared::of(Value::Bool(false)));
+                return Ok(Value::Bool(false));
             }
         }
-        Ok(Shared::of(Value::Bool(true)))
+        Ok(Value::Bool(true))
     }
 
     /// Whether isset finds nothing at a place, or null.

@@ -5,7 +5,6 @@
 use crate::entries::{then_pushed, then_put};
 use crate::halt::Halt;
 use crate::observer::Observer;
-use dp_shared::Shared;
 use dp_tree::{Expression, Item};
 use dp_value::{PhpArray, Value};
 
@@ -21,7 +20,7 @@ impl Observer<'_> {
 
     /// The value of a literal.
     #[cycle(observe)]
-    pub(crate) fn array(&self, items: &[Item]) -> Result<Shared, Halt>
+    pub(crate) fn array(&self, items: &[Item]) -> Result<Value, Halt>
         requires { list_all item_is_pure items.now ≡ true }
         ensures { Observed (items_run (map item_run_of items.now) (variant.Array empty)) result self.now.state.now }
     {
@@ -29,7 +28,7 @@ impl Observer<'_> {
         for item in items {
             array = self.item(item, array)?;
         }
-        Ok(Shared::of(array))
+        Ok(array)
     }
 
     /// A literal with one item more.
@@ -54,13 +53,7 @@ impl Observer<'_> {
     {
         match self.expression(key) {
             Ok(at) => {
-                let answer = then_put(
-                    self.alloc,
-                    array,
-                    at.value(),
-                    self.expression(item),
-                    self.state,
-                );
+                let answer = then_put(self.alloc, array, &at, self.expression(item), self.state);
                 drop(at);
                 answer
             }

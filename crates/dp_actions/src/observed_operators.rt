@@ -6,7 +6,6 @@ use crate::after::{then_binary, then_truth};
 use crate::halt::Halt;
 use crate::observer::Observer;
 use crate::operands::{holds, kept, present};
-use dp_shared::Shared;
 use dp_tree::{Boxed, Expression, Link, Operator};
 use dp_value::Value;
 
@@ -22,7 +21,7 @@ impl Observer<'_> {
 
     /// The value of operands that are joined from left to right.
     #[cycle(observe)]
-    pub(crate) fn chain(&self, first: &Expression, links: &[Link]) -> Result<Shared, Halt>
+    pub(crate) fn chain(&self, first: &Expression, links: &[Link]) -> Result<Value, Halt>
         requires first { is_pure first.now ≡ true }
         requires links { list_all link_is_pure links.now ≡ true }
         ensures { Observed (chained (expression_run first.now) (map link_run links.now)) result self.now.state.now }
@@ -33,7 +32,7 @@ impl Observer<'_> {
 
     /// The value of operands that are joined to a first one.
     #[cycle(observe)]
-    fn links(&self, first: Shared, links: &[Link]) -> Result<Shared, Halt>
+    fn links(&self, first: Value, links: &[Link]) -> Result<Value, Halt>
         requires { list_all link_is_pure links.now ≡ true }
         ensures { Observed (links_run (map link_run links.now) first) result self.now.state.now }
     {
@@ -46,20 +45,20 @@ impl Observer<'_> {
 
     /// The value of two operands that are joined.
     #[cycle(observe)]
-    fn link(&self, left: Shared, link: &Link) -> Result<Shared, Halt>
+    fn link(&self, left: Value, link: &Link) -> Result<Value, Halt>
         requires { link_is_pure link.now ≡ true }
         ensures { Observed (link_run link.now left) result self.now.state.now }
     {
         match link.operator {
             Operator::Or => {
                 if holds(left) {
-                    return Ok(Shared::of(Value::Bool(true)));
+                    return Ok(Value::Bool(true));
                 }
                 then_truth(self.expression(&link.operand))
             }
             Operator::And => {
                 if !holds(left) {
-                    return Ok(Shared::of(Value::Bool(false)));
+                    return Ok(Value::Bool(false));
                 }
                 then_truth(self.expression(&link.operand))
             }
@@ -75,7 +74,7 @@ impl Observer<'_> {
 
     /// `a ?? b`
     #[cycle(observe)]
-    pub(crate) fn coalesce(&self, left: &Expression, right: &Expression) -> Result<Shared, Halt>
+    pub(crate) fn coalesce(&self, left: &Expression, right: &Expression) -> Result<Value, Halt>
         requires left { is_pure left.now ≡ true }
         requires right { is_pure right.now ≡ true }
         ensures { Observed (coalesced (expression_run left.now) (expression_run right.now)) result
@@ -95,7 +94,7 @@ impl Observer<'_> {
         test: &Expression,
         middle: &Option<Boxed<Expression>>,
         otherwise: &Expression,
-    ) -> Result<Shared, Halt>
+    ) -> Result<Value, Halt>
         requires test { is_pure test.now ≡ true }
         requires middle { option_map_or is_pure middle.now true ≡ true }
         requires otherwise { is_pure otherwise.now ≡ true }
@@ -111,7 +110,7 @@ impl Observer<'_> {
 
     /// The value of a conditional whose test holds.
     #[cycle(observe)]
-    fn chosen(&self, middle: &Option<Boxed<Expression>>, test: Shared) -> Result<Shared, Halt>
+    fn chosen(&self, middle: &Option<Boxed<Expression>>, test: Value) -> Result<Value, Halt>
         requires { option_map_or is_pure middle.now true ≡ true }
         ensures { Observed (choice (option_map expression_run middle.now) test) result self.now.state.now }
     {

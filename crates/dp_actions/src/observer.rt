@@ -6,9 +6,9 @@ ghost use Rattle.dp_actions.specs.Expressions.{evaluation};
 ghost use Rattle.dp_actions.specs.Observed.{Observed};
 
 use crate::halt::Halt;
-use dp_shared::Shared;
 use dp_state::State;
 use dp_tree::Expression;
+use dp_value::Value;
 use std::alloc::Global;
 
 /// What evaluates expressions that change nothing: where memory is taken, and the state, which is lent.
@@ -21,7 +21,7 @@ pub(crate) struct Observer<'a> {
 /// The value of an expression without calls, assignments, `++`, `--` and includes in the top frame of a state, or the
 /// fault that ends it. The state is lent; of it only the entries that are read and the texts that are joined are
 /// copied.
-pub fn observe(alloc: Global, state: &State, e: &Expression) -> Result<Shared, Halt>
+pub fn observe(alloc: Global, state: &State, e: &Expression) -> Result<Value, Halt>
     requires { is_pure e.now ≡ true }
     ensures { Observed (evaluation e.now) result state.now }
 {

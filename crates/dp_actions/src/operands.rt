@@ -13,29 +13,29 @@ ghost use Rattle.dp_actions.specs.Values.{holds as value_holds, kept_of, present
 use crate::answers::is_missing;
 use crate::halt::Halt;
 use crate::places::variable;
-use dp_shared::Shared;
 use dp_state::State;
-use dp_value::{Bytes, Value, truthy};
+use dp_value::{Bytes, Text, Value, truthy};
+use std::alloc::Global;
 
 /// The value of a text literal.
-pub fn text_value(bytes: &Bytes) -> Result<Shared, Halt>
+pub fn text_value(alloc: Global, bytes: &Bytes) -> Result<Value, Halt>
     ensures { (s : AnyState) → AtOnce (Done (variant.Text bytes.now) s) result s }
 {
-    Ok(Shared::of(Value::Text(bytes.try_clone()?)))
+    Ok(Value::Text(Text::from_slice(alloc, bytes.as_slice())?))
 }
 
 /// The value of a variable.
-pub fn variable_value(name: &Bytes, state: &State) -> Result<Shared, Halt>
+pub fn variable_value(name: &Bytes, state: &State) -> Result<Value, Halt>
     ensures { AtOnce (Done (value_named name.now state.now) state.now) result state.now }
 {
     Ok(variable(name, state)?)
 }
 
 /// The value, or `None` if it is null.
-pub fn present(value: Shared) -> Option<Shared>
+pub fn present(value: Value) -> Option<Value>
     ensures { result ≡ present_of value }
 {
-    if is_missing(value.value()) {
+    if is_missing(&value) {
         drop(value);
         return None;
     }
@@ -43,10 +43,10 @@ pub fn present(value: Shared) -> Option<Shared>
 }
 
 /// The value, or `None` if it does not hold.
-pub fn kept(value: Shared) -> Option<Shared>
+pub fn kept(value: Value) -> Option<Value>
     ensures { result ≡ kept_of value }
 {
-    if truthy(value.value()) {
+    if truthy(&value) {
         return Some(value);
     }
     drop(value);
@@ -54,10 +54,10 @@ pub fn kept(value: Shared) -> Option<Shared>
 }
 
 /// Whether a value holds, which is given up.
-pub fn holds(value: Shared) -> bool
+pub fn holds(value: Value) -> bool
     ensures { result ≡ value_holds value }
 {
-    let holds = truthy(value.value());
+    let holds = truthy(&value);
     drop(value);
     holds
 }

@@ -18,18 +18,17 @@ use crate::entry_reads::{Reading, entry_by, is_missing_by};
 use crate::faults::settled;
 use crate::halt::Halt;
 use crate::operands::variable_value;
-use dp_shared::Shared;
 use dp_state::State;
 use dp_value::{Bytes, Key, Memory, Value, ValueError, key_of};
 use std::alloc::Global;
 
 /// The value of a variable of the top frame, null where it is missing.
-pub fn variable(name: &Bytes, state: &State) -> Result<Shared, Memory>
+pub fn variable(name: &Bytes, state: &State) -> Result<Value, Memory>
     ensures { IfOk result (λ value. value ≡ value_named name.now state.now) }
 {
     match state.read(name) {
         Some(value) => value.try_clone(),
-        None => Ok(Shared::of(Value::Null)),
+        None => Ok(Value::Null),
     }
 }
 
@@ -37,9 +36,9 @@ pub fn variable(name: &Bytes, state: &State) -> Result<Shared, Memory>
 pub fn read_place(
     alloc: Global,
     name: &Bytes,
-    indices: &[Shared],
+    indices: &[Value],
     state: &State,
-) -> Result<Shared, Halt>
+) -> Result<Value, Halt>
     ensures { AtOnce (read_run name.now indices.now state.now) result state.now }
 {
     place_by(alloc, Reading::Plain, name, indices, state)
@@ -49,9 +48,9 @@ pub fn read_place(
 pub fn found_place(
     alloc: Global,
     name: &Bytes,
-    indices: &[Shared],
+    indices: &[Value],
     state: &State,
-) -> Result<Shared, Halt>
+) -> Result<Value, Halt>
     ensures { AtOnce (found_run name.now indices.now state.now) result state.now }
 {
     place_by(alloc, Reading::Found, name, indices, state)
@@ -61,25 +60,25 @@ pub fn found_place(
 pub fn is_missing_place(
     alloc: Global,
     name: &Bytes,
-    indices: &[Shared],
+    indices: &[Value],
     state: &State,
 ) -> Result<bool, Halt>
     ensures { AtOnce (missing_run name.now indices.now state.now) result state.now }
 {
     match state.read(name) {
-        Some(value) => missing_of(is_missing_by(alloc, value.value(), indices), state),
+        Some(value) => missing_of(is_missing_by(alloc, value, indices), state),
         None => missing_of(is_missing_by(alloc, &Value::Null, indices), state),
     }
 }
 
-/// The value of a place by a reading. A whole variable is not copied, nor what stands on the way to an entry.
+/// The value of a place by a reading. What a variable or an entry holds is not copied.
 fn place_by(
     alloc: Global,
     reading: Reading,
     name: &Bytes,
-    indices: &[Shared],
+    indices: &[Value],
     state: &State,
-) -> Result<Shared, Halt>
+) -> Result<Value, Halt>
     ensures { AtOnce (value_run (read_under (entries_by reading) (map data_of indices.now)
         (data_of (value_named name.now state.now))) state.now) result state.now }
 {
@@ -87,7 +86,7 @@ fn place_by(
         return variable_value(name, state);
     }
     match state.read(name) {
-        Some(value) => value_of(entry_by(alloc, reading, value.value(), indices), state),
+        Some(value) => value_of(entry_by(alloc, reading, value, indices), state),
         None => value_of(entry_by(alloc, reading, &Value::Null, indices), state),
     }
 }
@@ -96,29 +95,27 @@ fn place_by(
 pub fn assign_place(
     alloc: Global,
     name: &Bytes,
-    indices: &[Shared],
+    indices: &[Value],
     push: bool,
-    value: Shared,
+    value: Value,
     state: &mut State,
-) -> Result<Shared, Halt>
+) -> Result<Value, Halt>
     ensures { AtOnce (assign_run name.now indices.now push value state.old) result state.new }
 {
     let keys = keys_of(alloc, indices)?;
-    assign_keyed(alloc, name, keys.as_slice(), push, value, state)
+    assign_keyed(name, keys.as_slice(), push, value, state)
 }
 
 /// The same under keys.
 fn assign_keyed(
-    alloc: Global,
     name: &Bytes,
     keys: &[Option<Key>],
     push: bool,
-    value: Shared,
+    value: Value,
     state: &mut State,
-) -> Result<Shared, Halt>
+) -> Result<Value, Halt>
     ensures { AtOnce (keyed_write name.now keys.now push value state.old) result state.new }
 {
-    let value = value.settled(alloc)?;
     let copy = value.try_clone()?;
     write_keyed(name, keys, push, value, state)?;
     Ok(copy)
@@ -129,7 +126,7 @@ fn write_keyed(
     name: &Bytes,
     keys: &[Option<Key>],
     push: bool,
-    value: Shared,
+    value: Value,
     state: &mut State,
 ) -> Result<(), Halt>
     ensures { AtOnce (taken (assigned 0 name.now keys.now push value state.old) state.old) result state.new }
@@ -139,7 +136,7 @@ fn write_keyed(
 }
 
 /// Gives a variable a value.
-pub fn assign_variable(name: &Bytes, value: Shared, state: &mut State) -> Result<(), Halt>
+pub fn assign_variable(name: &Bytes, value: Value, state: &mut State) -> Result<(), Halt>
     ensures { AtOnce (bind_name name.now value state.old) result state.new }
 {
     write_keyed(name, &[], false, value, state)
@@ -149,7 +146,7 @@ pub fn assign_variable(name: &Bytes, value: Shared, state: &mut State) -> Result
 pub fn unset_place(
     alloc: Global,
     name: &Bytes,
-    indices: &[Shared],
+    indices: &[Value],
     state: &mut State,
 ) -> Result<(), Halt>
     ensures { AtOnce (taken (unset name.now (keys_of_indices indices.now) state.old) state.old) result state.new }
@@ -160,21 +157,21 @@ pub fn unset_place(
 }
 
 /// The keys that indices become. One that is an array becomes none.
-fn keys_of(alloc: Global, indices: &[Shared]) -> Result<Vec<Option<Key>>, Memory>
+fn keys_of(alloc: Global, indices: &[Value]) -> Result<Vec<Option<Key>>, Memory>
     ensures { IfOk result (λ keys. keys.items ≡ keys_of_indices indices.now) }
 {
     let mut keys = Vec::with_capacity(alloc, indices.len())?;
     for index in indices {
-        keys.push(key_at(alloc, index.value())?)?;
+        keys.push(key_at(index)?)?;
     }
     Ok(keys)
 }
 
 /// The key that an index becomes.
-pub fn key_at(alloc: Global, index: &Value) -> Result<Option<Key>, Memory>
+pub fn key_at(index: &Value) -> Result<Option<Key>, Memory>
     ensures { IfOk result (λ key. key ≡ key_of_data (data_of index.now)) }
 {
-    match key_of(alloc, index) {
+    match key_of(index) {
         Ok(key) => Ok(Some(key)),
         Err(ValueError::BadKey) => Ok(None),
         Err(_) => Err(Memory),

@@ -1,6 +1,6 @@
 //! How statements end.
 
-use dp_shared::Shared;
+use dp_value::Value;
 
 /// How a statement ends.
 #[derive(Drop)]
@@ -12,5 +12,5 @@ pub enum Signal {
     /// On with the loop of this number, counted from the innermost, 1.
     Continue(u32),
     /// Out of the function or the file, with this value.
-    Return(Shared),
+    Return(Value),
 }

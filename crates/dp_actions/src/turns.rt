@@ -4,8 +4,7 @@ ghost use Rattle.std.specs.Prelude.{◌≡◌};
 ghost use Rattle.dp_actions.specs.Loops.{step_after, last_holds as ends_true};
 
 use crate::signal::Signal;
-use dp_shared::Shared;
-use dp_value::truthy;
+use dp_value::{Value, truthy};
 
 /// What comes after the body of a loop.
 #[derive(Drop)]
@@ -39,11 +38,11 @@ pub fn after_body(signal: Signal) -> LoopStep
 }
 
 /// Whether the last value of a test holds; true if there is none.
-pub fn last_holds(values: &[Shared]) -> bool
+pub fn last_holds(values: &[Value]) -> bool
     ensures { result ≡ ends_true values.now }
 {
     match values.last() {
-        Some(value) => truthy(value.value()),
+        Some(value) => truthy(value),
         None => true,
     }
 }

@@ -8,7 +8,7 @@ ghost use Rattle.dp_break.specs.inner.Causes.{IsNoTree, error_of, pure_or_refuse
 ghost use Rattle.dp_tree.specs.Purity.{is_pure};
 
 use crate::errors::BreakError;
-use dp_meaning::shared_value_in;
+use dp_meaning::value_in;
 use dp_packet::ErrorCode;
 use dp_parse::{ParseError, parse_expression};
 use dp_state::State;
@@ -82,8 +82,8 @@ pub(crate) fn is_true(
     requires { is_pure e.now ≡ true }
     ensures { IfOk result (λ truth. truth ≡ is_true_in bundle.now e.now state.now) }
 {
-    match shared_value_in(alloc, state, bundle, e)? {
-        Some(found) => Ok(truthy(found.value())),
+    match value_in(alloc, state, bundle, e)? {
+        Some(found) => Ok(truthy(&found)),
         None => Ok(false),
     }
 }

@@ -25,7 +25,6 @@ fn main(rt: HostRuntime) -> io::Result<()> {
     let alloc = rt.alloc();
     let mut told = String::new(alloc);
     put(&mut told, "dp_operations", programs::dp_operations(alloc))?;
-    put(&mut told, "dp_shared", programs::dp_shared(alloc))?;
     if let Ok(bundle) = programs::program(alloc) {
         put(&mut told, "dp_tree", programs::files(alloc, &bundle))?;
         put(&mut told, "dp_state", runs::dp_state(alloc, &bundle))?;

@@ -2,9 +2,8 @@
 
 use dp_operations::{binary, text};
 use dp_parse::{ParseError, parse_file};
-use dp_shared::Shared;
 use dp_tree::{BinaryOp, Bundle, BundleFile, Files};
-use dp_value::{Bytes, Items, Memory, PhpArray, Value, ValueError, WriteError};
+use dp_value::{Bytes, Items, Memory, Value, ValueError};
 use std::alloc::Global;
 
 /// Operators are case tables.
@@ -14,26 +13,6 @@ pub(crate) fn dp_operations(alloc: Global) -> Result<String, ValueError> {
     let spelt = text(alloc, &product)?;
     // end
     let answer = String::from_utf8_lossy(alloc, spelt.as_slice())?;
-    Ok(answer)
-}
-
-/// How many entries a value has.
-fn entries(value: &Value) -> usize {
-    match value {
-        Value::Array(array) => array.len(),
-        _ => 0,
-    }
-}
-
-/// What two owners share is written by one.
-pub(crate) fn dp_shared(alloc: Global) -> Result<String, WriteError> {
-    // call
-    let mut one = Shared::of(Value::Array(PhpArray::new(alloc))).settled(alloc)?;
-    let other = one.try_clone()?;
-    one.write(alloc, &[], true, Shared::of(Value::Int(7)))?;
-    // end
-    let (one, other) = (entries(one.value()), entries(other.value()));
-    let answer = format!(in alloc; "{one} and {other}")?;
     Ok(answer)
 }
 

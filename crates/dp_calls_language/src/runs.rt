@@ -4,7 +4,6 @@ ghost use Rattle.std.specs.Prelude.{◌≡◌, ◌<◌};
 use dp_actions::{Halt, observe};
 use dp_meaning::{Stop, run_to};
 use dp_parse::parse_expression;
-use dp_shared::Shared;
 use dp_state::{Fault, State};
 use dp_step::{Machine, Steps};
 use dp_tree::{Bundle, is_pure};
@@ -25,10 +24,10 @@ pub(crate) fn dp_state(alloc: Global, bundle: &Bundle) -> Result<String, Fault> 
     let name = Bytes::from_slice(alloc, b"x")?;
     // call
     let mut state = State::opening(alloc, bundle)?;
-    state.assign(0, &name, &[], false, Shared::of(Value::Int(7)))?;
+    state.assign(0, &name, &[], false, Value::Int(7))?;
     let held = state.read(&name);
     // end
-    let held = int_of(held.map(|shared| shared.value()));
+    let held = int_of(held);
     let answer = format!(in alloc; "{held}")?;
     Ok(answer)
 }
@@ -43,7 +42,7 @@ pub(crate) fn dp_actions(alloc: Global, bundle: &Bundle) -> Result<String, Halt>
     // call
     if is_pure(&product) {
         let value = observe(alloc, &state, &product)?;
-        found = int_of(Some(value.value()));
+        found = int_of(Some(&value));
     }
     // end
     let answer = format!(in alloc; "{found}")?;

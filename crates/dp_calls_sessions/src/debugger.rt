@@ -101,7 +101,7 @@ pub(crate) fn dp_write_commands(
     let written = write_response(alloc, bundle, &features, state, &to, &request)?;
     // end
     drop(written);
-    let int = int_in(state.read(&name).map(|shared| shared.value()));
+    let int = int_in(state.read(&name));
     let answer = format!(in alloc; "{int}")?;
     Ok(answer)
 }

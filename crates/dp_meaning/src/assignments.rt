@@ -7,7 +7,6 @@ use crate::outside::Outside;
 use dp_actions::{
     Halt, found_place, present, read_place, then_assign, then_combine, then_missing, then_step,
 };
-use dp_shared::Shared;
 use dp_state::State;
 use dp_tree::{BinaryOp, Expression, Order, Place, UnaryOp};
 use dp_value::{Bytes, Value};
@@ -28,7 +27,7 @@ impl<O: Outside> Evaluator<'_, O> {
         right: &Expression,
         push: bool,
         state: &mut State,
-    ) -> Result<Shared, Halt>
+    ) -> Result<Value, Halt>
         ensures { Evaluates (O.rules self.now.outside.now) (assignment push (place_run place.now)
             (evaluation right.now) (goes_by self.now) state.old) result state.new }
     {
@@ -51,7 +50,7 @@ impl<O: Outside> Evaluator<'_, O> {
         place: &Place,
         right: &Expression,
         state: &mut State,
-    ) -> Result<Shared, Halt>
+    ) -> Result<Value, Halt>
         ensures { Evaluates (O.rules self.now.outside.now) (compound op (place_run place.now) (evaluation right.now)
             (goes_by self.now) state.old) result state.new }
     {
@@ -65,10 +64,10 @@ impl<O: Outside> Evaluator<'_, O> {
         &self,
         op: BinaryOp,
         name: &Bytes,
-        indices: &[Shared],
+        indices: &[Value],
         right: &Expression,
         state: &mut State,
-    ) -> Result<Shared, Halt>
+    ) -> Result<Value, Halt>
         ensures { Evaluates (O.rules self.now.outside.now) (compound_under op name.now
             (evaluation right.now) indices.now (goes_by self.now) state.old) result state.new }
     {
@@ -84,7 +83,7 @@ impl<O: Outside> Evaluator<'_, O> {
         place: &Place,
         right: &Expression,
         state: &mut State,
-    ) -> Result<Shared, Halt>
+    ) -> Result<Value, Halt>
         ensures { Evaluates (O.rules self.now.outside.now) (coalescing (place_run place.now) (evaluation right.now)
             (goes_by self.now) state.old) result state.new }
     {
@@ -97,10 +96,10 @@ impl<O: Outside> Evaluator<'_, O> {
     fn coalesce_under(
         &self,
         name: &Bytes,
-        indices: &[Shared],
+        indices: &[Value],
         right: &Expression,
         state: &mut State,
-    ) -> Result<Shared, Halt>
+    ) -> Result<Value, Halt>
         ensures { Evaluates (O.rules self.now.outside.now) (coalescing_under name.now
             (evaluation right.now) indices.now (goes_by self.now) state.old) result state.new }
     {
@@ -126,7 +125,7 @@ impl<O: Outside> Evaluator<'_, O> {
         order: Order,
         place: &Place,
         state: &mut State,
-    ) -> Result<Shared, Halt>
+    ) -> Result<Value, Halt>
         ensures { Evaluates (O.rules self.now.outside.now) (step op order (place_run place.now)
             (goes_by self.now) state.old) result state.new }
     {
@@ -142,17 +141,17 @@ impl<O: Outside> Evaluator<'_, O> {
 
     /// `isset`
     #[cycle(evaluate)]
-    pub(crate) fn isset(&self, places: &[Place], state: &mut State) -> Result<Shared, Halt>
+    pub(crate) fn isset(&self, places: &[Place], state: &mut State) -> Result<Value, Halt>
         ensures { Evaluates (O.rules self.now.outside.now) (isset_run (map place_run places.now)
             (goes_by self.now) state.old) result state.new }
     {
         for place in places {
             let missing = self.missing_at(place, state)?;
             if missing {
-                return Ok(Shared::of(Value::Bool(false)));
+                return Ok(Value::Bool(false));
             }
         }
-        Ok(Shared::of(Value::Bool(true)))
+        Ok(Value::Bool(true))
     }
 
     /// Whether isset finds nothing at a place, or null.

@@ -8,7 +8,6 @@ use dp_actions::{
     Callee, Halt, Signal, builtin_call, enter_call, enter_file, fatal, file_named_by, look_up,
     not_included, returned, statements_of,
 };
-use dp_shared::Shared;
 use dp_state::{FatalKind, MomentKind, State};
 use dp_tree::{Builtin, Expression, Function, Inclusion};
 use dp_value::{Bytes, Items, Value};
@@ -30,7 +29,7 @@ impl<O: Outside> Evaluator<'_, O> {
         name: &Bytes,
         arguments: &[Expression],
         state: &mut State,
-    ) -> Result<Shared, Halt>
+    ) -> Result<Value, Halt>
         ensures { Evaluates (O.rules self.now.outside.now) (call_run
             (callee_named self.now.bundle.now name.now state.old) (evaluations arguments.now)
             (goes_by self.now) state.old) result state.new }
@@ -52,7 +51,7 @@ impl<O: Outside> Evaluator<'_, O> {
         function: Builtin,
         arguments: &[Expression],
         state: &mut State,
-    ) -> Result<Shared, Halt>
+    ) -> Result<Value, Halt>
         ensures { Evaluates (O.rules self.now.outside.now) (call_run (Some (BuiltIn function))
             (evaluations arguments.now) (goes_by self.now) state.old) result state.new }
     {
@@ -66,9 +65,9 @@ impl<O: Outside> Evaluator<'_, O> {
         &self,
         file: u32,
         function: &Function,
-        values: Items<Shared>,
+        values: Items<Value>,
         state: &mut State,
-    ) -> Result<Shared, Halt>
+    ) -> Result<Value, Halt>
         requires { body_size function.now.body + 1 < frame_size self.now.bundle.now }
         ensures { Evaluates (O.rules self.now.outside.now) ((goes_by self.now).call file function.now values
             state.old) result state.new }
@@ -92,9 +91,9 @@ impl<O: Outside> Evaluator<'_, O> {
         &self,
         file: u32,
         function: &Function,
-        values: Items<Shared>,
+        values: Items<Value>,
         state: &mut State,
-    ) -> Result<Shared, Halt>
+    ) -> Result<Value, Halt>
         ensures { Evaluates (O.rules self.now.outside.now) (function_run file function.now values
             (goes_by self.now) state.old) result state.new }
     {
@@ -106,14 +105,14 @@ impl<O: Outside> Evaluator<'_, O> {
     }
 
     /// The end of a call whose body is done.
-    fn leave(&self, signal: Signal, state: &mut State) -> Result<Shared, Halt>
+    fn leave(&self, signal: Signal, state: &mut State) -> Result<Value, Halt>
         ensures { Evaluates (O.rules self.now.outside.now) (leaving signal state.old) result state.new }
     {
         let line = state.line();
         match self.outside.at_moment(MomentKind::Leave, line, state) {
             Ok(()) => {
                 state.leave();
-                Ok(returned(Shared::of(Value::Null), signal))
+                Ok(returned(Value::Null, signal))
             }
             Err(halt) => {
                 drop(signal);
@@ -129,7 +128,7 @@ impl<O: Outside> Evaluator<'_, O> {
         how: Inclusion,
         name: &Value,
         state: &mut State,
-    ) -> Result<Shared, Halt>
+    ) -> Result<Value, Halt>
         ensures { Evaluates (O.rules self.now.outside.now) (include_run how name.now (goes_by self.now) state.old)
             result state.new }
     {
@@ -141,7 +140,7 @@ impl<O: Outside> Evaluator<'_, O> {
 
     /// The run of the file of this number.
     #[cycle(evaluate)]
-    fn file(&self, file: u32, state: &mut State) -> Result<Shared, Halt>
+    fn file(&self, file: u32, state: &mut State) -> Result<Value, Halt>
         ensures { Evaluates (O.rules self.now.outside.now) ((goes_by self.now).include file state.old) result
             state.new }
     {
@@ -160,13 +159,13 @@ impl<O: Outside> Evaluator<'_, O> {
 
     /// The run of the file of this number, where one frame more can be on the stack.
     #[cycle(evaluate)]
-    fn included(&self, file: u32, state: &mut State) -> Result<Shared, Halt>
+    fn included(&self, file: u32, state: &mut State) -> Result<Value, Halt>
         ensures { Evaluates (O.rules self.now.outside.now) (file_run file (goes_by self.now) state.old) result
             state.new }
     {
         enter_file(self.bundle, file, state)?;
         let signal = self.body(statements_of(self.bundle, file), state)?;
         state.leave();
-        Ok(returned(Shared::of(Value::Int(1)), signal))
+        Ok(returned(Value::Int(1), signal))
     }
 }

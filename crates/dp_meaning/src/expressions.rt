@@ -5,7 +5,6 @@
 use crate::evaluator::Evaluator;
 use crate::outside::Outside;
 use dp_actions::{Halt, Reading, text_value, then_unary, variable_value};
-use dp_shared::Shared;
 use dp_state::State;
 use dp_tree::{Expression, Inclusion};
 use dp_value::{Items, Value};
@@ -17,15 +16,15 @@ impl<O: Outside> Evaluator<'_, O> {
 
     /// The value of an expression.
     #[cycle(evaluate)]
-    pub(crate) fn expression(&self, e: &Expression, state: &mut State) -> Result<Shared, Halt>
+    pub(crate) fn expression(&self, e: &Expression, state: &mut State) -> Result<Value, Halt>
         ensures { Evaluates (O.rules self.now.outside.now) ((expression_run e.now).value (goes_by self.now) state.old)
             result state.new }
     {
         match e {
-            Expression::Null => Ok(Shared::of(Value::Null)),
-            Expression::Bool(b) => Ok(Shared::of(Value::Bool(*b))),
-            Expression::Number(n) => Ok(Shared::of(Value::Int(*n))),
-            Expression::Text(bytes) => text_value(bytes),
+            Expression::Null => Ok(Value::Null),
+            Expression::Bool(b) => Ok(Value::Bool(*b)),
+            Expression::Number(n) => Ok(Value::Int(*n)),
+            Expression::Text(bytes) => text_value(self.alloc, bytes),
             Expression::Variable(name) => variable_value(name, state),
             Expression::Array(items) => self.array(items.as_slice(), state),
             Expression::Call(name, arguments) => self.named(name, arguments.as_slice(), state),
@@ -61,7 +60,7 @@ impl<O: Outside> Evaluator<'_, O> {
 
     /// The value of an expression to the left of `??`.
     #[cycle(evaluate)]
-    pub(crate) fn found(&self, e: &Expression, state: &mut State) -> Result<Shared, Halt>
+    pub(crate) fn found(&self, e: &Expression, state: &mut State) -> Result<Value, Halt>
         ensures { Evaluates (O.rules self.now.outside.now) ((expression_run e.now).found (goes_by self.now) state.old)
             result state.new }
     {
@@ -78,11 +77,7 @@ impl<O: Outside> Evaluator<'_, O> {
 
     /// The values of expressions, one after another.
     #[cycle(evaluate)]
-    pub(crate) fn values(
-        &self,
-        all: &[Expression],
-        state: &mut State,
-    ) -> Result<Items<Shared>, Halt>
+    pub(crate) fn values(&self, all: &[Expression], state: &mut State) -> Result<Items<Value>, Halt>
         ensures { Evaluates (O.rules self.now.outside.now) (evaluations all.now (goes_by self.now) state.old) result
             state.new }
     {
@@ -95,17 +90,12 @@ impl<O: Outside> Evaluator<'_, O> {
 
     /// The value of an `include` or a `require`.
     #[cycle(evaluate)]
-    fn inclusion(
-        &self,
-        how: Inclusion,
-        file: &Expression,
-        state: &mut State,
-    ) -> Result<Shared, Halt>
+    fn inclusion(&self, how: Inclusion, file: &Expression, state: &mut State) -> Result<Value, Halt>
         ensures { Evaluates (O.rules self.now.outside.now) (included how (expression_run file.now)
             (goes_by self.now) state.old) result state.new }
     {
         let value = self.expression(file, state)?;
-        let answer = self.include(how, value.value(), state);
+        let answer = self.include(how, &value, state);
         drop(value);
         answer
     }

@@ -4,10 +4,10 @@
 
 use crate::evaluator::Evaluator;
 use crate::outside::Outside;
-use dp_actions::{Halt, Reading, then_inside};
-use dp_shared::{Inside, Shared};
+use dp_actions::{Halt, Reading, then_entry};
 use dp_state::State;
 use dp_tree::Expression;
+use dp_value::Value;
 
 impl<O: Outside> Evaluator<'_, O> {
     ghost use Rattle.std.specs.Prelude.{map};
@@ -25,7 +25,7 @@ impl<O: Outside> Evaluator<'_, O> {
         base: &Expression,
         indices: &[Expression],
         state: &mut State,
-    ) -> Result<Shared, Halt>
+    ) -> Result<Value, Halt>
         ensures { Evaluates (O.rules self.now.outside.now) (entry_under reading (expression_run base.now)
             (map expression_run indices.now) (goes_by self.now) state.old) result state.new }
     {
@@ -35,7 +35,7 @@ impl<O: Outside> Evaluator<'_, O> {
 
     /// The value of what indices stand behind.
     #[cycle(evaluate)]
-    fn base(&self, reading: Reading, e: &Expression, state: &mut State) -> Result<Shared, Halt>
+    fn base(&self, reading: Reading, e: &Expression, state: &mut State) -> Result<Value, Halt>
         ensures { Evaluates (O.rules self.now.outside.now) (base_run reading (expression_run e.now)
             (goes_by self.now) state.old) result state.new }
     {
@@ -50,18 +50,18 @@ impl<O: Outside> Evaluator<'_, O> {
     fn under(
         &self,
         reading: Reading,
-        base: Shared,
+        base: Value,
         indices: &[Expression],
         state: &mut State,
-    ) -> Result<Shared, Halt>
+    ) -> Result<Value, Halt>
         ensures { Evaluates (O.rules self.now.outside.now) (indices_run (entries_by reading)
             (map expression_run indices.now) base (goes_by self.now) state.old) result state.new }
     {
-        let mut inside = Inside::of(self.alloc, base);
+        let mut value = base;
         for e in indices {
             let at = self.expression(e, state);
-            inside = then_inside(self.alloc, reading, inside, at, state)?;
+            value = then_entry(self.alloc, reading, value, at, state)?;
         }
-        Ok(inside.into_shared()?)
+        Ok(value)
     }
 }

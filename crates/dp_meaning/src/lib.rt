@@ -29,7 +29,7 @@ pub use momentless::{all_momentless, is_momentless};
 pub use moments::moment_of;
 pub use runs::run_to;
 pub use stop::Stop;
-pub use values::{shared_value_in, value_in};
+pub use values::value_in;
 pub use whole::Whole;
 pub use write_answers::write_in;
 pub use writes::{NumberedWrite, Write, WriteAnswer, WriteFault};

@@ -5,7 +5,6 @@
 use crate::evaluator::Evaluator;
 use crate::outside::Outside;
 use dp_actions::{Halt, then_pushed, then_put};
-use dp_shared::Shared;
 use dp_state::State;
 use dp_tree::{Expression, Item};
 use dp_value::{PhpArray, Value};
@@ -21,7 +20,7 @@ impl<O: Outside> Evaluator<'_, O> {
 
     /// The value of a literal.
     #[cycle(evaluate)]
-    pub(crate) fn array(&self, items: &[Item], state: &mut State) -> Result<Shared, Halt>
+    pub(crate) fn array(&self, items: &[Item], state: &mut State) -> Result<Value, Halt>
         ensures { Evaluates (O.rules self.now.outside.now) (items_run (map item_run_of items.now)
             (variant.Array empty) (goes_by self.now) state.old) result state.new }
     {
@@ -29,7 +28,7 @@ impl<O: Outside> Evaluator<'_, O> {
         for item in items {
             array = self.item(item, array, state)?;
         }
-        Ok(Shared::of(array))
+        Ok(array)
     }
 
     /// A literal with one item more.
@@ -63,13 +62,7 @@ impl<O: Outside> Evaluator<'_, O> {
     {
         match self.expression(key, state) {
             Ok(at) => {
-                let answer = then_put(
-                    self.alloc,
-                    array,
-                    at.value(),
-                    self.expression(item, state),
-                    state,
-                );
+                let answer = then_put(self.alloc, array, &at, self.expression(item, state), state);
                 drop(at);
                 answer
             }

@@ -111,7 +111,7 @@ impl<O: Outside> Evaluator<'_, O> {
             (statement_run body.now) (goes_by self.now) state.old) result state.new }
     {
         let subject = self.expression(subject, state)?;
-        let answer = self.each(0, line, binding, subject.value(), body, state);
+        let answer = self.each(0, line, binding, &subject, body, state);
         drop(subject);
         answer
     }

@@ -12,7 +12,6 @@ use crate::evaluator::Evaluator;
 use crate::pure::Unwatched;
 use crate::writes::{NumberedWrite, Write};
 use dp_actions::{Halt, given_keys};
-use dp_shared::Shared;
 use dp_state::{FRAME_LIMIT, Fault, Path, State};
 use dp_tree::{Bundle, Expression};
 use dp_value::{Bytes, Key, Memory, Value};
@@ -111,7 +110,7 @@ fn write_keyed(
     ensures { OnOk result (state.new ≡ or_unchanged state.old
         (place_or_fault (assigned level name.now keys.now false value.now state.old))) }
 {
-    match state.assign(level, name, keys, false, Shared::of(value.try_clone()?)) {
+    match state.assign(level, name, keys, false, value.try_clone()?) {
         Ok(()) => Ok(()),
         Err(Fault::Fatal(_)) => Ok(()),
         Err(Fault::Memory) => Err(Memory),
@@ -192,11 +191,11 @@ fn quietly(
 }
 
 /// A value, where there is one.
-fn held(answer: Result<Shared, Halt>) -> Result<Option<Value>, Memory>
+fn held(answer: Result<Value, Halt>) -> Result<Option<Value>, Memory>
     ensures { IfOk result (IsEvaluated answer) }
 {
     match answer {
-        Ok(value) => Ok(Some(value.into_value()?)),
+        Ok(value) => Ok(Some(value)),
         Err(Halt::Memory) => Err(Memory),
         Err(Halt::Finished(_)) => Ok(None),
         Err(Halt::Stopped(_)) => Ok(None),

@@ -5,7 +5,6 @@
 use crate::evaluator::Evaluator;
 use crate::outside::Outside;
 use dp_actions::{Halt, holds, kept, present, then_binary, then_truth};
-use dp_shared::Shared;
 use dp_state::State;
 use dp_tree::{Boxed, Expression, Link, Operator};
 use dp_value::Value;
@@ -24,7 +23,7 @@ impl<O: Outside> Evaluator<'_, O> {
         first: &Expression,
         links: &[Link],
         state: &mut State,
-    ) -> Result<Shared, Halt>
+    ) -> Result<Value, Halt>
         ensures { Evaluates (O.rules self.now.outside.now) (chained (expression_run first.now)
             (map link_run links.now) (goes_by self.now) state.old) result state.new }
     {
@@ -34,7 +33,7 @@ impl<O: Outside> Evaluator<'_, O> {
 
     /// The value of operands that are joined to a first one.
     #[cycle(evaluate)]
-    fn links(&self, first: Shared, links: &[Link], state: &mut State) -> Result<Shared, Halt>
+    fn links(&self, first: Value, links: &[Link], state: &mut State) -> Result<Value, Halt>
         ensures { Evaluates (O.rules self.now.outside.now) (links_run (map link_run links.now) first
             (goes_by self.now) state.old) result state.new }
     {
@@ -47,20 +46,20 @@ impl<O: Outside> Evaluator<'_, O> {
 
     /// The value of two operands that are joined.
     #[cycle(evaluate)]
-    fn link(&self, left: Shared, link: &Link, state: &mut State) -> Result<Shared, Halt>
+    fn link(&self, left: Value, link: &Link, state: &mut State) -> Result<Value, Halt>
         ensures { Evaluates (O.rules self.now.outside.now) (link_run link.now left (goes_by self.now) state.old)
             result state.new }
     {
         match link.operator {
             Operator::Or => {
                 if holds(left) {
-                    return Ok(Shared::of(Value::Bool(true)));
+                    return Ok(Value::Bool(true));
                 }
                 then_truth(self.expression(&link.operand, state))
             }
             Operator::And => {
                 if !holds(left) {
-                    return Ok(Shared::of(Value::Bool(false)));
+                    return Ok(Value::Bool(false));
                 }
                 then_truth(self.expression(&link.operand, state))
             }
@@ -81,7 +80,7 @@ impl<O: Outside> Evaluator<'_, O> {
         left: &Expression,
         right: &Expression,
         state: &mut State,
-    ) -> Result<Shared, Halt>
+    ) -> Result<Value, Halt>
         ensures { Evaluates (O.rules self.now.outside.now) (coalesced (expression_run left.now)
             (expression_run right.now) (goes_by self.now) state.old) result state.new }
     {
@@ -100,7 +99,7 @@ impl<O: Outside> Evaluator<'_, O> {
         middle: &Option<Boxed<Expression>>,
         otherwise: &Expression,
         state: &mut State,
-    ) -> Result<Shared, Halt>
+    ) -> Result<Value, Halt>
         ensures { Evaluates (O.rules self.now.outside.now) (conditional (expression_run test.now)
             (option_map expression_run middle.now) (expression_run otherwise.now) (goes_by self.now) state.old) result
             state.new }
@@ -117,9 +116,9 @@ impl<O: Outside> Evaluator<'_, O> {
     fn chosen(
         &self,
         middle: &Option<Boxed<Expression>>,
-        test: Shared,
+        test: Value,
         state: &mut State,
-    ) -> Result<Shared, Halt>
+    ) -> Result<Value, Halt>
         ensures { Evaluates (O.rules self.now.outside.now) (choice (option_map expression_run middle.now) test
             (goes_by self.now) state.old) result state.new }
     {

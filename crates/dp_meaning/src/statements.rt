@@ -8,7 +8,6 @@ use dp_actions::{
     Halt, Signal, bind_all, then_exit, then_holds, then_next, then_print, then_return, then_signal,
     unset_place,
 };
-use dp_shared::Shared;
 use dp_state::{Outcome, State};
 use dp_tree::{Arm, Boxed, Expression, Place, Statement, StatementKind};
 use dp_value::Value;
@@ -168,7 +167,7 @@ impl<O: Outside> Evaluator<'_, O> {
             state.new }
     {
         match value {
-            None => Ok(Signal::Return(Shared::of(Value::Null))),
+            None => Ok(Signal::Return(Value::Null)),
             Some(e) => then_return(self.expression(e, state)),
         }
     }

@@ -3,7 +3,6 @@
 use crate::evaluator::Evaluator;
 use crate::pure::Unwatched;
 use dp_actions::{Halt, Signal};
-use dp_shared::Shared;
 use dp_state::State;
 use dp_tree::{Binding, Bundle, Expression, Statement};
 use dp_value::{Items, Value};
@@ -113,7 +112,7 @@ impl Whole<'_> {
     ghost use Rattle.dp_meaning.specs.Programs.{setting_of};
 
     /// The value of an expression in which no moment can come. It is evaluated at once.
-    pub fn value(&self, e: &Expression, state: &mut State) -> Result<Shared, Halt>
+    pub fn value(&self, e: &Expression, state: &mut State) -> Result<Value, Halt>
         requires { is_momentless e.now ≡ true }
         ensures { AtOnce (evaluation e.now (setting_of self.now.bundle.now self.now.bound self.now.depth) state.old)
             result state.new }
@@ -123,7 +122,7 @@ impl Whole<'_> {
     }
 
     /// The values of expressions in which no moment can come, one after another.
-    pub fn values(&self, all: &[Expression], state: &mut State) -> Result<Items<Shared>, Halt>
+    pub fn values(&self, all: &[Expression], state: &mut State) -> Result<Items<Value>, Halt>
         requires { list_all is_momentless all.now ≡ true }
         ensures { AtOnce (evaluations all.now (setting_of self.now.bundle.now self.now.bound self.now.depth) state.old)
             result state.new }

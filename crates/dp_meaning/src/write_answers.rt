@@ -143,7 +143,7 @@ fn variable_at(level: usize, name: &Bytes, state: &State) -> Result<Value, Memor
     ensures { IfOk result (λ value. value ≡ unwrap_or (read_at state.now level name.now) variant.Null) }
 {
     match state.read_at(level, name) {
-        Some(value) => value.value().try_clone(),
+        Some(value) => value.try_clone(),
         None => Ok(Value::Null),
     }
 }

@@ -8,18 +8,18 @@ ghost use Rattle.dp_operations.specs.Indices.{byte_at as byte_of, indexed};
 ghost use Rattle.dp_operations.specs.Indices.{letter_at as letter_of, looked_up, reading};
 ghost use Rattle.dp_operations.specs.Found.{data_of_found};
 
-use dp_value::{Bytes, Memory, Value, ValueError, key_of};
+use dp_value::{Memory, Text, Value, ValueError, key_of};
 use std::alloc::Global;
 
 /// The value read under an index: of an array the one under its key, and null where there is none; of a text one byte;
 /// of another value null.
 ///
 /// `BadKey` comes exactly where an array is read by an array, and `Unsupported` exactly where a text has no byte under
-/// the index. Takes time and memory for the value that is read. Source: the PHP manual, "Arrays" and "Strings".
+/// the index. What an entry holds is not copied. Source: the PHP manual, "Arrays" and "Strings".
 pub fn index(alloc: Global, holder: &Value, index: &Value) -> Result<Value, ValueError>
     ensures { Answers result (indexed (data_of holder.now) (data_of index.now)) }
 {
-    match under(alloc, holder, index, true) {
+    match under(holder, index, true) {
         Ok(found) => Ok(copy(alloc, found)?),
         Err(why) => Err(why),
     }
@@ -31,7 +31,7 @@ pub fn index(alloc: Global, holder: &Value, index: &Value) -> Result<Value, Valu
 pub fn find(alloc: Global, holder: &Value, index: &Value) -> Result<Value, ValueError>
     ensures { Answers result (looked_up (data_of holder.now) (data_of index.now)) }
 {
-    match under(alloc, holder, index, false) {
+    match under(holder, index, false) {
         Ok(found) => Ok(copy(alloc, found)?),
         Err(why) => Err(why),
     }
@@ -46,19 +46,14 @@ pub enum Found<'a> {
 }
 
 /// What a reading finds under an index: [`index`], where it is plain, else [`find`]. Copies nothing.
-pub fn under<'a>(
-    alloc: Global,
-    holder: &'a Value,
-    index: &Value,
-    plain: bool,
-) -> Result<Found<'a>, ValueError>
+pub fn under<'a>(holder: &'a Value, index: &Value, plain: bool) -> Result<Found<'a>, ValueError>
     ensures { MatchResult result (λ found. reading plain (data_of holder.now) (data_of index.now) ≡ Ok
         (data_of_found found))
         (λ e. (e ≡ ValueError.Memory) ⊎ (reading plain (data_of holder.now) (data_of index.now) ≡ Err e)) }
 {
     match holder {
         Value::Array(array) => {
-            let key = match key_of(alloc, index) {
+            let key = match key_of(index) {
                 Ok(key) => key,
                 Err(why) => return Err(why),
             };
@@ -106,7 +101,7 @@ pub fn copy(alloc: Global, found: Found) -> Result<Value, Memory>
 {
     match found {
         Found::Nothing => Ok(Value::Null),
-        Found::Letter(byte) => Ok(Value::Text(Bytes::of(vec![in alloc; byte]?))),
+        Found::Letter(byte) => Ok(Value::Text(Text::from_slice(alloc, &[byte])?)),
         Found::Entry(value) => value.try_clone(),
     }
 }

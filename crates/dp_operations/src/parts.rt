@@ -12,7 +12,7 @@ ghost use Rattle.dp_operations.specs.Text.{text_of};
 
 use crate::arguments::double;
 use crate::texts::text_bytes;
-use dp_value::{Bytes, CallError, Memory, Value, WEIGHT_LIMIT};
+use dp_value::{CallError, Memory, Text, Value, WEIGHT_LIMIT};
 use std::alloc::Global;
 
 /// A part of a text: from an offset on, a count of bytes or all.
@@ -47,7 +47,7 @@ fn cut(alloc: Global, bytes: &[u8], offset: i64, count: Option<i64>) -> Result<V
 {
     let start = start(bytes.len(), offset);
     let end = end(bytes.len(), start, count);
-    Ok(Value::Text(Bytes::from_slice(alloc, &bytes[start..end])?))
+    Ok(Value::Text(Text::from_slice(alloc, &bytes[start..end])?))
 }
 
 /// Where a part begins.
@@ -100,7 +100,7 @@ fn repeated(alloc: Global, bytes: &[u8], count: i64) -> Result<Value, CallError>
     if count.saturating_mul(bytes.len() as u64) > WEIGHT_LIMIT {
         return Err(CallError::TooHeavy);
     }
-    Ok(Value::Text(Bytes::of(copies(alloc, bytes, count)?)))
+    Ok(Value::Text(Text::of(alloc, copies(alloc, bytes, count)?)?))
 }
 
 /// Some bytes a number of times.
@@ -137,7 +137,7 @@ fn joined(alloc: Global, glue: &[u8], values: &[Value]) -> Result<Value, CallErr
     ensures { CallAnswers result (joining_of (join_by glue.now (map text_of (map data_of values.now)))) }
 {
     let [first, rest @ ..] = values else {
-        return Ok(Value::Text(Bytes::of(Vec::new(alloc))));
+        return Ok(Value::Text(Text::empty()));
     };
     let mut bytes = Vec::new(alloc);
     append(&mut bytes, text_bytes(alloc, first)?.as_slice())?;
@@ -145,7 +145,7 @@ fn joined(alloc: Global, glue: &[u8], values: &[Value]) -> Result<Value, CallErr
         append(&mut bytes, glue)?;
         append(&mut bytes, text_bytes(alloc, value)?.as_slice())?;
     }
-    Ok(Value::Text(Bytes::of(bytes)))
+    Ok(Value::Text(Text::of(alloc, bytes)?))
 }
 
 /// Adds bytes at the end of a text, where it does not become too heavy.

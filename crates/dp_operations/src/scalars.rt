@@ -7,7 +7,7 @@ ghost use Rattle.dp_operations.specs.Builtins.{byte_of, double as two_of, first_
 ghost use Rattle.dp_operations.specs.Builtins.{quotient_of, single as one_of, CallAnswers, CallGives};
 
 use crate::arguments::{double, single};
-use dp_value::{Bytes, CallError, Value};
+use dp_value::{CallError, Text, Value};
 use std::alloc::Global;
 
 /// The length of a text.
@@ -60,7 +60,7 @@ pub(crate) fn byte(alloc: Global, args: &[&Value]) -> Result<Value, CallError>
     match a {
         Value::Int(n) => {
             let byte = n.rem_euclid(256) as u8;
-            Ok(Value::Text(Bytes::of(vec![in alloc; byte]?)))
+            Ok(Value::Text(Text::from_slice(alloc, &[byte])?))
         }
         Value::Null | Value::Bool(_) | Value::Text(_) | Value::Array(_) => {
             Err(CallError::Unsupported)

@@ -6,47 +6,47 @@ ghost use Rattle.dp_value.specs.Value.{data_of};
 ghost use Rattle.dp_operations.specs.Answers.{Answers};
 ghost use Rattle.dp_operations.specs.Text.{joined, text_of};
 
-use dp_value::{Bytes, Memory, Value, ValueError, WEIGHT_LIMIT};
+use dp_value::{Memory, Text, Value, ValueError};
 use std::alloc::Global;
 
 /// The text of a value: an integer in decimal, true as `1`, false and null as nothing, an array as
-/// `Array`. It refuses with `Memory` alone. Source: the PHP manual, "Strings".
-pub fn text(alloc: Global, value: &Value) -> Result<Bytes, ValueError>
+/// `Array`. A text is not copied. It refuses with `Memory` alone. Source: the PHP manual, "Strings".
+pub fn text(alloc: Global, value: &Value) -> Result<Text, ValueError>
     ensures { MatchResult result (λ t. t ≡ text_of (data_of value.now)) (λ e. e ≡ ValueError.Memory) }
 {
     Ok(text_bytes(alloc, value)?)
 }
 
 /// The text of a value.
-pub(crate) fn text_bytes(alloc: Global, value: &Value) -> Result<Bytes, Memory>
+pub(crate) fn text_bytes(alloc: Global, value: &Value) -> Result<Text, Memory>
     ensures { IfOk result (λ t. t ≡ text_of (data_of value.now)) }
 {
     match value {
-        Value::Null | Value::Bool(false) => Ok(Bytes::of(Vec::new(alloc))),
-        Value::Bool(true) => Bytes::from_slice(alloc, b"1"),
+        Value::Null | Value::Bool(false) => Ok(Text::empty()),
+        Value::Bool(true) => Text::from_slice(alloc, b"1"),
         Value::Int(n) => decimal(alloc, *n),
-        Value::Text(bytes) => bytes.try_clone(),
-        Value::Array(_) => Bytes::from_slice(alloc, b"Array"),
+        Value::Text(text) => text.try_clone(),
+        Value::Array(_) => Text::from_slice(alloc, b"Array"),
     }
 }
 
 /// An integer in decimal.
-fn decimal(alloc: Global, n: i64) -> Result<Bytes, Memory>
+fn decimal(alloc: Global, n: i64) -> Result<Text, Memory>
     ensures { IfOk result (λ t. t ≡ signed_decimal n) }
 {
     let digits = n.to_string(alloc)?;
-    Ok(Bytes::from_slice(alloc, digits.as_bytes())?)
+    Text::from_slice(alloc, digits.as_bytes())
 }
 
 /// Two texts joined.
 pub(crate) fn concat(alloc: Global, a: &Value, b: &Value) -> Result<Value, ValueError>
     ensures { Answers result (joined (data_of a.now) (data_of b.now)) }
 {
-    let mut bytes = text_bytes(alloc, a)?.into_vec();
+    let mut text = text_bytes(alloc, a)?;
     let rest = text_bytes(alloc, b)?;
-    if bytes.len() as u64 + rest.len() as u64 > WEIGHT_LIMIT {
+    if text.is_beyond(rest.as_slice()) {
         return Err(ValueError::TooHeavy);
     }
-    bytes.extend_from_slice(rest.as_slice())?;
-    Ok(Value::Text(Bytes::of(bytes)))
+    text.append(alloc, rest.as_slice())?;
+    Ok(Value::Text(text))
 }

@@ -11,9 +11,8 @@ use crate::moments::FatalKind;
 use crate::state::{Fault, Frame, FrameKind, State};
 use crate::steps::FRAME_LIMIT;
 use crate::vars::{Slot, Vars};
-use dp_shared::Shared;
 use dp_tree::{Bundle, Function};
-use dp_value::{Bytes, Items, Memory};
+use dp_value::{Bytes, Items, Memory, Value};
 use std::alloc::Global;
 
 impl State {
@@ -26,7 +25,7 @@ impl State {
         &mut self,
         file: u32,
         function: &Function,
-        values: Items<Shared>,
+        values: Items<Value>,
     ) -> Result<(), Fault>
         ensures ok { OnOk result (called file function.now values self.old ≡ Ok self.new) }
         ensures refused { IfErr result (IsCause (called file function.now values self.old)) }
@@ -96,12 +95,12 @@ impl State {
 }
 
 /// Parameters with their values.
-fn parameters(alloc: Global, names: &[Bytes], values: Items<Shared>) -> Result<Vars, Memory>
+fn parameters(alloc: Global, names: &[Bytes], values: Items<Value>) -> Result<Vars, Memory>
     ensures { IfOk result (λ vars. vars ≡ with_parameters names.now values []) }
 {
     let mut vars = Vars::new(alloc);
     for (name, value) in names.iter().zip(values.into_vec()) {
-        vars.set(name.try_clone()?, Slot::Held(value.settled(alloc)?))?;
+        vars.set(name.try_clone()?, Slot::Held(value))?;
     }
     Ok(vars)
 }

@@ -1,20 +1,18 @@
 //! Writes and removals among variables.
 
-ghost use Rattle.std.specs.Prelude.{◌≡◌, ◌⊎◌, [], false, not, is_some, None, Ok, Err, IfOk, IfErr, OnOk, OnErr};
+ghost use Rattle.std.specs.Prelude.{◌≡◌, ◌⊎◌, ◌++◌, [], false, not, is_some, None, Ok, Err, IfOk, IfErr, OnOk, OnErr};
 ghost use Rattle.dp_state.specs.Variables.{slot_of, value_held, with_slot};
 ghost use Rattle.dp_state.specs.Places.{with_null};
 ghost use Rattle.dp_state.specs.inner.Parts.{assigned_in, removed_in, IsCauseIn, IsSureIn};
 ghost use Rattle.dp_state.specs.States.{IsFatal};
 ghost use Rattle.dp_state.specs.declared.state.Fault.TheVariants as fault;
-ghost use Rattle.dp_shared.specs.Pieces.{with_piece};
 ghost use Rattle.dp_value.specs.declared.value.Value.TheVariants as variant;
 ghost use Rattle.dp_state.specs.declared.vars.Slot.TheVariants as variable;
 
 use crate::moments::FatalKind;
 use crate::state::Fault;
 use crate::vars::{Slot, Vars};
-use dp_shared::Shared;
-use dp_value::{Bytes, Key, Memory, Value, WEIGHT_LIMIT, weight};
+use dp_value::{Bytes, Key, Memory, Text, Value, WEIGHT_LIMIT, remove_at, weight, write_at};
 use std::alloc::Global;
 
 /// Gives a variable a value, or gives it to the entry of the variable under `keys`, or pushes it there.
@@ -23,7 +21,7 @@ pub(crate) fn assign_in(
     name: &Bytes,
     keys: &[Option<Key>],
     push: bool,
-    value: Shared,
+    value: Value,
 ) -> Result<(), Fault>
     ensures ok { OnOk result (assigned_in name.now keys.now push value vars.old ≡ Ok vars.new) }
     ensures refused { IfErr result (IsCauseIn (assigned_in name.now keys.now push value vars.old)) }
@@ -32,12 +30,12 @@ pub(crate) fn assign_in(
 {
     let alloc = vars.allocator();
     if keys.is_empty() && !push {
-        return assign_whole(alloc, vars, name, value);
+        return assign_whole(vars, name, value);
     }
-    let Some(mut held) = vars.exchange(name, Shared::of(Value::Null)) else {
+    let Some(mut held) = vars.exchange(name, Value::Null) else {
         return assign_new(alloc, vars, name, keys, push, value);
     };
-    let done = held.write(alloc, keys, push, value);
+    let done = write_at(alloc, &mut held, keys, push, value);
     let _ = vars.exchange(name, held);
     match done {
         Ok(()) => Ok(()),
@@ -46,21 +44,21 @@ pub(crate) fn assign_in(
 }
 
 /// Gives a variable a value.
-fn assign_whole(alloc: Global, vars: &mut Vars, name: &Bytes, value: Shared) -> Result<(), Fault>
+fn assign_whole(vars: &mut Vars, name: &Bytes, value: Value) -> Result<(), Fault>
     ensures ok { OnOk result (assigned_in name.now [] false value vars.old ≡ Ok vars.new) }
     ensures refused { IfErr result (IsCauseIn (assigned_in name.now [] false value vars.old)) }
     ensures sure { IsSureIn (assigned_in name.now [] false value vars.old) result }
     ensures err { OnErr result (vars.new ≡ vars.old) }
 {
-    if weight(value.value()) > WEIGHT_LIMIT {
+    if weight(&value) > WEIGHT_LIMIT {
         return Err(Fault::Fatal(FatalKind::TooHeavy));
     }
-    put(vars, name, value.settled(alloc)?)?;
+    put(vars, name, value)?;
     Ok(())
 }
 
-/// Gives a variable a value that is kept for its owners.
-fn put(vars: &mut Vars, name: &Bytes, value: Shared) -> Result<(), Memory>
+/// Gives a variable a value of any weight.
+fn put(vars: &mut Vars, name: &Bytes, value: Value) -> Result<(), Memory>
     ensures ok { OnOk result (vars.new ≡ with_slot vars.old name.now (variable.Held value)) }
     ensures err { OnErr result (vars.new ≡ vars.old) }
 {
@@ -77,15 +75,15 @@ fn assign_new(
     name: &Bytes,
     keys: &[Option<Key>],
     push: bool,
-    value: Shared,
+    value: Value,
 ) -> Result<(), Fault>
     requires { value_held (slot_of vars.old name.now) ≡ None }
     ensures ok { OnOk result (assigned_in name.now keys.now push value vars.old ≡ Ok vars.new) }
     ensures refused { IfErr result (IsCauseIn (assigned_in name.now keys.now push value vars.old)) }
     ensures err { OnErr result (vars.new ≡ vars.old) }
 {
-    let mut made = Shared::of(Value::Null);
-    match made.write(alloc, keys, push, value) {
+    let mut made = Value::Null;
+    match write_at(alloc, &mut made, keys, push, value) {
         Ok(()) => {
             vars.set(name.try_clone()?, Slot::Held(made))?;
             Ok(())
@@ -99,13 +97,14 @@ fn assign_new(
 pub(crate) fn append_in(
     vars: &mut Vars,
     name: &Bytes,
-    text: Shared,
+    text: Text,
     piece: &[u8],
-) -> Result<Shared, Fault>
-    ensures longer { IfOk result (λ longer. longer ≡ with_piece text piece.now) }
-    ensures ok { OnOk result (assigned_in name.now [] false (with_piece text piece.now) vars.old ≡ Ok vars.new) }
-    ensures refused { IfErr result (IsCauseIn (assigned_in name.now [] false (with_piece text piece.now) vars.old)) }
-    ensures sure { IsSureIn (assigned_in name.now [] false (with_piece text piece.now) vars.old) result }
+) -> Result<Text, Fault>
+    ensures longer { IfOk result (λ longer. longer ≡ text ++ piece.now) }
+    ensures ok { OnOk result (assigned_in name.now [] false (variant.Text (text ++ piece.now)) vars.old ≡ Ok vars.new) }
+    ensures refused { IfErr result (IsCauseIn (assigned_in name.now [] false (variant.Text (text ++ piece.now))
+        vars.old)) }
+    ensures sure { IsSureIn (assigned_in name.now [] false (variant.Text (text ++ piece.now)) vars.old) result }
     ensures err { IsFatal result → vars.new ≡ vars.old }
     ensures memory { result ≡ Err fault.Memory
         → (vars.new ≡ vars.old) ⊎ (assigned_in name.now [] false variant.Null vars.old ≡ Ok vars.new) }
@@ -114,22 +113,23 @@ pub(crate) fn append_in(
         return Err(Fault::Fatal(FatalKind::TooHeavy));
     }
     let alloc = vars.allocator();
-    let Some(held) = vars.exchange(name, Shared::of(Value::Null)) else {
+    let Some(held) = vars.exchange(name, Value::Null) else {
         let (longer, copy) = twice(alloc, text, piece)?;
-        assign_new(alloc, vars, name, &[], false, longer)?;
+        assign_new(alloc, vars, name, &[], false, Value::Text(longer))?;
         return Ok(copy);
     };
     drop(held);
     let (longer, copy) = twice(alloc, text, piece)?;
-    let _ = vars.exchange(name, longer);
+    let _ = vars.exchange(name, Value::Text(longer));
     Ok(copy)
 }
 
 /// A text with a piece behind it, for two owners.
-fn twice(alloc: Global, text: Shared, piece: &[u8]) -> Result<(Shared, Shared), Memory>
-    ensures { IfOk result (λ both. (both.0 ≡ with_piece text piece.now) × (both.1 ≡ with_piece text piece.now)) }
+fn twice(alloc: Global, text: Text, piece: &[u8]) -> Result<(Text, Text), Memory>
+    ensures { IfOk result (λ both. (both.0 ≡ text ++ piece.now) × (both.1 ≡ text ++ piece.now)) }
 {
-    let longer = text.append(alloc, piece)?.settled(alloc)?;
+    let mut longer = text;
+    longer.append(alloc, piece)?;
     let copy = longer.try_clone()?;
     Ok((longer, copy))
 }
@@ -141,11 +141,10 @@ pub(crate) fn remove_in(vars: &mut Vars, name: &Bytes, keys: &[Option<Key>]) -> 
     ensures sure { IsSureIn (removed_in name.now keys.now vars.old) result }
     ensures err { OnErr result (vars.new ≡ vars.old) }
 {
-    let alloc = vars.allocator();
-    let Some(mut held) = vars.exchange(name, Shared::of(Value::Null)) else {
+    let Some(mut held) = vars.exchange(name, Value::Null) else {
         return Ok(());
     };
-    let done = held.remove(alloc, keys);
+    let done = remove_at(&mut held, keys);
     let _ = vars.exchange(name, held);
     match done {
         Ok(()) => Ok(()),
@@ -162,7 +161,7 @@ pub(crate) fn make_null(vars: &mut Vars, name: &Bytes) -> Result<bool, Memory>
     if vars.get(name).is_some() {
         return Ok(false);
     }
-    vars.set(name.try_clone()?, Slot::Held(Shared::of(Value::Null)))?;
+    vars.set(name.try_clone()?, Slot::Held(Value::Null))?;
     Ok(true)
 }
 

@@ -7,8 +7,7 @@ ghost use Rattle.dp_state.specs.States.{read, read_at, shares_at, top_frame, var
 
 use crate::state::{Frame, State};
 use crate::vars::{Slot, Vars};
-use dp_shared::Shared;
-use dp_value::Bytes;
+use dp_value::{Bytes, Value};
 
 /// Whether the frame at this position uses the variables of the frame below it.
 fn shares(frames: &[Frame], at: usize) -> bool
@@ -68,7 +67,7 @@ impl State {
     }
 
     /// The value of a global variable.
-    fn global(&self, name: &Bytes) -> Option<&Shared>
+    fn global(&self, name: &Bytes) -> Option<&Value>
         ensures { option_map (λ value. value.now) result ≡ value_held (slot_of self.now.globals name.now) }
     {
         match self.globals.get(name) {
@@ -80,7 +79,7 @@ impl State {
 
     /// The value of a variable at a level, as [`State::variables`] counts them; that of the global variable where the
     /// name is bound. Takes no memory.
-    pub fn read_at(&self, level: usize, name: &Bytes) -> Option<&Shared>
+    pub fn read_at(&self, level: usize, name: &Bytes) -> Option<&Value>
         ensures { option_map (λ value. value.now) result ≡ read_at self.now level name.now }
     {
         match self.variables(level).get(name) {
@@ -91,7 +90,7 @@ impl State {
     }
 
     /// The value of a variable of the top frame, as [`State::read_at`] reads it. Takes no memory.
-    pub fn read(&self, name: &Bytes) -> Option<&Shared>
+    pub fn read(&self, name: &Bytes) -> Option<&Value>
         ensures { option_map (λ value. value.now) result ≡ read self.now name.now }
     {
         self.read_at(0, name)

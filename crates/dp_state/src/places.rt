@@ -1,11 +1,9 @@
 //! Writes of variables and of their entries, and `unset` and `global`.
 
-ghost use Rattle.std.specs.Prelude.{◌≡◌, ◌⊎◌, ◌≤◌, ◌<◌, ◌-◌, false, [], Ok, Err, Some, length, option_map, slice_get};
-ghost use Rattle.std.specs.Prelude.{IfOk, IsOk};
-ghost use Rattle.std.specs.Prelude.{IfErr, OnOk, OnErr};
+ghost use Rattle.std.specs.Prelude.{◌≡◌, ◌⊎◌, ◌++◌, ◌≤◌, ◌<◌, ◌-◌, false, [], Ok, Err, Some, length, option_map};
+ghost use Rattle.std.specs.Prelude.{slice_get, IfOk, IsOk, IfErr, OnOk, OnErr};
 ghost use Rattle.dp_state.specs.States.{own_variables, IsCause, IsFatal, IsSure};
 ghost use Rattle.dp_state.specs.declared.state.Fault.TheVariants as fault;
-ghost use Rattle.dp_shared.specs.Pieces.{with_piece};
 ghost use Rattle.dp_value.specs.declared.value.Value.TheVariants as variant;
 ghost use Rattle.dp_state.specs.Variables.{slot_of};
 ghost use Rattle.dp_state.specs.Places.{assigned, is_bound as is_mark, unset, with_global, with_own, with_vars};
@@ -15,8 +13,7 @@ ghost use Rattle.dp_state.specs.inner.Parts.{home as home_of};
 use crate::entries::{append_in, assign_in, bind_in, make_null, remove_in};
 use crate::state::{Fault, Frame, State};
 use crate::vars::{Slot, Vars};
-use dp_shared::Shared;
-use dp_value::{Bytes, Items, Key, Memory};
+use dp_value::{Bytes, Items, Key, Memory, Text, Value};
 use std::mem;
 
 impl State {
@@ -24,8 +21,8 @@ impl State {
     /// pushes it there. A key that is `None` stands for an index that is no key. A name that is bound is the global
     /// variable's. What is missing is created. A level beyond the frames is that of the lowest one.
     ///
-    /// The work grows with the number of keys, and not with what the variable holds, but where that has other owners:
-    /// then it is copied first. A value with other owners that goes under keys is copied too.
+    /// The work grows with the number of keys, and not with what the variable holds, but where an array on the way has
+    /// other owners: that one is copied first, and nothing beside the way.
     ///
     /// The causes are tried key by key: `Scalar` and `Unsupported` by what holds the entry, then `BadKey`; behind the
     /// last key `NextIndex`, then `TooHeavy`. A whole variable is refused also where there is no memory. After a
@@ -36,7 +33,7 @@ impl State {
         name: &Bytes,
         keys: &[Option<Key>],
         push: bool,
-        value: Shared,
+        value: Value,
     ) -> Result<(), Fault>
         ensures ok { OnOk result (assigned level name.now keys.now push value self.old ≡ Ok self.new) }
         ensures refused { IfErr result (IsCause (assigned level name.now keys.now push value self.old)) }
@@ -54,17 +51,18 @@ impl State {
         done
     }
 
-    /// Gives a variable of the top frame a text with a piece behind it, and gives it; what is no text counts as the
-    /// empty one. If the text has no owner but the one that is given here and the variable itself, it grows in its
-    /// place.
+    /// Gives a variable of the top frame a text with a piece behind it, and gives it. If the text has no owner but the
+    /// one that is given here and the variable itself, it grows in its place.
     ///
     /// `TooHeavy` comes exactly where the text would weigh more than a value may, also where there is no memory, and
     /// then the state is as before. After out of memory it is as before, or the variable is null.
-    pub fn append(&mut self, name: &Bytes, text: Shared, piece: &[u8]) -> Result<Shared, Fault>
-        ensures longer { IfOk result (λ longer. longer ≡ with_piece text piece.now) }
-        ensures ok { OnOk result (assigned 0 name.now [] false (with_piece text piece.now) self.old ≡ Ok self.new) }
-        ensures refused { IfErr result (IsCause (assigned 0 name.now [] false (with_piece text piece.now) self.old)) }
-        ensures sure { IsSure (assigned 0 name.now [] false (with_piece text piece.now) self.old) result }
+    pub fn append(&mut self, name: &Bytes, text: Text, piece: &[u8]) -> Result<Text, Fault>
+        ensures longer { IfOk result (λ longer. longer ≡ text ++ piece.now) }
+        ensures ok { OnOk result (assigned 0 name.now [] false (variant.Text (text ++ piece.now)) self.old ≡ Ok
+            self.new) }
+        ensures refused { IfErr result (IsCause (assigned 0 name.now [] false (variant.Text (text ++ piece.now))
+            self.old)) }
+        ensures sure { IsSure (assigned 0 name.now [] false (variant.Text (text ++ piece.now)) self.old) result }
         ensures err { IsFatal result → self.new ≡ self.old }
         ensures memory { result ≡ Err fault.Memory
             → (self.new ≡ self.old) ⊎ (assigned 0 name.now [] false variant.Null self.old ≡ Ok self.new) }
@@ -82,7 +80,7 @@ impl State {
     /// Takes a variable of the top frame away, or its entry under `keys` where there are any. A key that is `None`
     /// stands for an index that is no key. A name that is bound is bound no more, and the global variable stays; an
     /// entry of it is an entry of the global variable. If the variable or an entry on the way is missing, nothing
-    /// changes. Takes memory only where the value of the variable has other owners too: then it is copied.
+    /// changes. Takes memory only where an array on the way has other owners: then that one is copied first.
     ///
     /// The causes are tried key by key: `Scalar` and `Unsupported` by what holds the entry, then `BadKey`, all also
     /// where there is no memory. After a refusal, and after out of memory, the state is as before.

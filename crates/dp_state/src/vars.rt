@@ -3,8 +3,7 @@
 ghost use Rattle.std.specs.Prelude.{◌≡◌, position, Some, IfSome};
 ghost use Rattle.std.specs.Str.{bytes_eq};
 
-use dp_shared::Shared;
-use dp_value::{Bytes, Memory};
+use dp_value::{Bytes, Memory, Value};
 use indexmap::IndexMap;
 use std::alloc::Global;
 use std::marker::Model;
@@ -16,7 +15,7 @@ const NEAR: usize = 8;
 /// What a name of a frame has: a value, or the mark that it is bound to the global variable of its name.
 #[derive(Debug, Drop)]
 pub enum Slot {
-    Held(Shared),
+    Held(Value),
     Bound,
 }
 
@@ -45,7 +44,7 @@ impl Slot {
     ghost use Rattle.dp_state.specs.inner.Parts.{with_held};
 
     /// Puts a value in the place of the one that is held, and gives that one out.
-    fn exchange(&mut self, value: Shared) -> Option<Shared>
+    fn exchange(&mut self, value: Value) -> Option<Value>
         ensures value { result ≡ value_held (Some self.old) }
         ensures exchanged { self.new ≡ with_held value self.old }
     {
@@ -56,7 +55,7 @@ impl Slot {
     }
 
     /// Puts a value in the place of the one that is held. Gives it back where none is.
-    fn put(&mut self, value: Shared) -> Option<Shared>
+    fn put(&mut self, value: Value) -> Option<Value>
         ensures back { result ≡ (if is_some (value_held (Some self.old)) then None else Some value) }
         ensures exchanged { self.new ≡ with_held value self.old }
     {
@@ -144,7 +143,7 @@ impl Vars {
 
     /// Puts a value in the place of the one that a name holds, and gives that one out. Where the name holds none,
     /// nothing changes. Takes no memory.
-    pub(crate) fn exchange(&mut self, name: &Bytes, value: Shared) -> Option<Shared>
+    pub(crate) fn exchange(&mut self, name: &Bytes, value: Value) -> Option<Value>
         ensures value { result ≡ value_held (slot_of self.old name.now) }
         ensures exchanged { self.new ≡ (if is_some (value_held (slot_of self.old name.now))
             then with_slot self.old name.now (variable.Held value) else self.old) }
@@ -160,7 +159,7 @@ impl Vars {
 
     /// Puts a value in the place of the one that a name holds. Where the name holds none, nothing changes, and the
     /// value is given back. Takes no memory.
-    pub(crate) fn put(&mut self, name: &Bytes, value: Shared) -> Option<Shared>
+    pub(crate) fn put(&mut self, name: &Bytes, value: Value) -> Option<Value>
         ensures back { result ≡ (if is_some (value_held (slot_of self.old name.now)) then None else Some value) }
         ensures exchanged { self.new ≡ (if is_some (value_held (slot_of self.old name.now))
             then with_slot self.old name.now (variable.Held value) else self.old) }

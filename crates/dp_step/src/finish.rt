@@ -9,12 +9,11 @@ use crate::steps::Steps;
 use dp_actions::{Halt, Signal};
 use dp_depth::DeepNames;
 use dp_meaning::Whole;
-use dp_shared::Shared;
 use dp_state::Outcome;
 use dp_step_parts::{Given, Hand as PartHand};
 use dp_step_statements::{DoTurns, EachTurns, Hand, Head, Turns};
 use dp_tree::Statement;
-use dp_value::{Items, Memory};
+use dp_value::{Items, Memory, Value};
 use std::sync::ledger::Ledger;
 use std::{mem, slice};
 
@@ -181,7 +180,7 @@ impl<'p> Machine<'p> {
     fn entries(
         &mut self,
         turns: EachTurns<'p>,
-        subject: Shared,
+        subject: Value,
         at: usize,
     ) -> Result<Option<Outcome>, Memory>
         ensures { IfOk result (λ end. Leaps self.old
@@ -192,7 +191,7 @@ impl<'p> Machine<'p> {
             at,
             turns.line,
             turns.binding,
-            subject.value(),
+            &subject,
             body,
             &mut self.state,
         );

@@ -16,12 +16,11 @@ ghost use Rattle.dp_step_statements.specs.declared.work.Hand.TheVariants as any_
 use crate::machine::Machine;
 use dp_actions::{Halt, Signal, enter_call, enter_file, fatal};
 use dp_meaning::{all_momentless, is_momentless};
-use dp_shared::Shared;
 use dp_state::{FatalKind, MomentKind, Outcome};
 use dp_step_parts::{Given, Hand as PartHand};
 use dp_step_statements::{Hand, Next, Small, Waiting, Work, first_of, receive};
 use dp_tree::{Bundle, Expression, Function};
-use dp_value::{Items, Memory};
+use dp_value::{Items, Memory, Value};
 use std::mem;
 
 impl<'p> Machine<'p> {
@@ -75,7 +74,7 @@ impl<'p> Machine<'p> {
     /// A small step with expressions that are left. All of them are evaluated whole where no moment can come in them.
     fn values_whole(
         &mut self,
-        before: Items<Shared>,
+        before: Items<Value>,
         all: &'p Items<Expression>,
         at: usize,
     ) -> Result<Option<(MomentKind, u32)>, Halt>
@@ -190,7 +189,7 @@ impl<'p> Machine<'p> {
         &mut self,
         file: u32,
         function: &'p Function,
-        values: Items<Shared>,
+        values: Items<Value>,
     ) -> Result<Option<(MomentKind, u32)>, Halt>
         ensures { Moves self.old (rest_with self.old (any_hand.Call file function.entry values) self.old.state) result
             self.new }

@@ -8,7 +8,6 @@ use crate::errors::StepError;
 use crate::machine::Machine;
 use dp_actions::given_keys;
 use dp_meaning::{NumberedWrite, evaluation, write_all};
-use dp_shared::Shared;
 use dp_state::{Fault, Path, State};
 use dp_tree::Expression;
 use dp_value::{Memory, Value};
@@ -228,7 +227,7 @@ fn assign_at(
     ensures err { OnErr result (state.new ≡ state.old) }
 {
     match given_keys(alloc, path.keys.as_slice()) {
-        Ok(keys) => state.assign(level, &path.name, keys.as_slice(), false, Shared::of(value)),
+        Ok(keys) => state.assign(level, &path.name, keys.as_slice(), false, value),
         Err(_) => {
             drop(value);
             Err(Fault::Memory)

@@ -12,7 +12,6 @@ ghost use Rattle.dp_step_parts.specs.Leads.{Leads};
 use crate::next::{give, given};
 use crate::work::{ForPart, ForValue, ForValues, Hand, Next, Work};
 use dp_actions::{Halt, Reading, text_value, variable_value};
-use dp_shared::Shared;
 use dp_state::State;
 use dp_tree::{Boxed, Expression};
 use dp_value::{Items, PhpArray, Value};
@@ -57,10 +56,10 @@ pub(crate) fn begin<'p>(alloc: Global, e: &'p Expression, state: &State) -> Resu
         → Leads (next_rest setting) (λ k. and_then (evaluation e.now setting state.now) (to_value k)) result state.now }
 {
     match e {
-        Expression::Null => Ok(give(Shared::of(Value::Null))),
-        Expression::Bool(b) => Ok(give(Shared::of(Value::Bool(*b)))),
-        Expression::Number(n) => Ok(give(Shared::of(Value::Int(*n)))),
-        Expression::Text(bytes) => given(text_value(bytes)),
+        Expression::Null => Ok(give(Value::Null)),
+        Expression::Bool(b) => Ok(give(Value::Bool(*b))),
+        Expression::Number(n) => Ok(give(Value::Int(*n))),
+        Expression::Text(bytes) => given(text_value(alloc, bytes)),
         Expression::Variable(name) => given(variable_value(name, state)),
         Expression::Array(items) => {
             let empty = Value::Array(PhpArray::new(alloc));

@@ -20,13 +20,12 @@ use crate::begin::values_first;
 use crate::next::give;
 use crate::work::{ForPart, ForValues, Given, Hand, Next, Work};
 use dp_actions::{Halt, Reading, holds};
-use dp_shared::{Inside, Shared};
 use dp_tree::{Expression, Item, Link, Operator, Place};
 use dp_value::{Items, Value};
 use std::alloc::Global;
 
 /// The values of expressions, of which the first are there.
-pub(crate) fn values<'p>(before: Items<Shared>, all: &'p Items<Expression>, at: usize) -> Next<'p>
+pub(crate) fn values<'p>(before: Items<Value>, all: &'p Items<Expression>, at: usize) -> Next<'p>
     ensures { (setting : Setting) (k : Follows) (s : AnyState)
         → next_rest setting result k s ≡ and_then (evaluations (members_from at all.now) setting s)
         (λ values t. k (any_given.Values (before ++ values)) t) }
@@ -50,7 +49,7 @@ pub(crate) fn items<'p>(array: Value, all: &'p Items<Item>, at: usize) -> Next<'
         (map item_run_of (members_from at all.now)) array setting s) (to_value k) }
 {
     match all.as_slice().get(at) {
-        None => give(Shared::of(array)),
+        None => give(array),
         Some(first) => match &first.key {
             None => Next {
                 hand: Hand::Evaluate(&first.value),
@@ -65,14 +64,14 @@ pub(crate) fn items<'p>(array: Value, all: &'p Items<Item>, at: usize) -> Next<'
 }
 
 /// A literal before the item at a position, whose key is evaluated.
-pub(crate) fn keyed_item<'p>(array: Value, key: Shared, all: &'p Items<Item>, at: usize) -> Next<'p>
+pub(crate) fn keyed_item<'p>(array: Value, key: Value, all: &'p Items<Item>, at: usize) -> Next<'p>
     ensures { (setting : Setting) (k : Follows) (s : AnyState)
         → next_rest setting result k s ≡ keyed_after setting (members_from at all.now) key array k s }
 {
     match all.as_slice().get(at) {
         None => {
             drop(key);
-            give(Shared::of(array))
+            give(array)
         }
         Some(first) => Next {
             hand: Hand::Evaluate(&first.value),
@@ -82,7 +81,7 @@ pub(crate) fn keyed_item<'p>(array: Value, key: Shared, all: &'p Items<Item>, at
 }
 
 /// A left operand, and what is joined to it.
-pub(crate) fn links<'p>(left: Shared, all: &'p Items<Link>, at: usize) -> Next<'p>
+pub(crate) fn links<'p>(left: Value, all: &'p Items<Link>, at: usize) -> Next<'p>
     ensures { (setting : Setting) (k : Follows) (s : AnyState)
         → next_rest setting result k s ≡ and_then (links_run (map link_run (members_from at all.now)) left setting s)
         (to_value k) }
@@ -94,7 +93,7 @@ pub(crate) fn links<'p>(left: Shared, all: &'p Items<Link>, at: usize) -> Next<'
 }
 
 /// A left operand, an operator with its right operand, and what is joined behind it.
-fn link<'p>(left: Shared, first: &'p Link, all: &'p Items<Link>, at: usize) -> Next<'p>
+fn link<'p>(left: Value, first: &'p Link, all: &'p Items<Link>, at: usize) -> Next<'p>
     ensures { (setting : Setting) (k : Follows) (s : AnyState)
         → next_rest setting result k s ≡ and_then (link_run first.now left setting s)
         (λ v t. and_then (links_run (map link_run (members_from at all.now)) v setting t) (to_value k)) }
@@ -119,7 +118,7 @@ fn or<'p>(left: bool, right: &'p Expression, all: &'p Items<Link>, at: usize) ->
 {
     if left {
         Next {
-            hand: Hand::Links(Shared::of(Value::Bool(true)), all, at),
+            hand: Hand::Links(Value::Bool(true), all, at),
             waits: None,
         }
     } else {
@@ -145,7 +144,7 @@ fn and<'p>(left: bool, right: &'p Expression, all: &'p Items<Link>, at: usize) -
         }
     } else {
         Next {
-            hand: Hand::Links(Shared::of(Value::Bool(false)), all, at),
+            hand: Hand::Links(Value::Bool(false), all, at),
             waits: None,
         }
     }
@@ -154,31 +153,21 @@ fn and<'p>(left: bool, right: &'p Expression, all: &'p Items<Link>, at: usize) -
 /// A value, and the indices under which it is read.
 pub(crate) fn under<'p>(
     how: Reading,
-    inside: Inside,
+    value: Value,
     all: &'p Items<Expression>,
     at: usize,
 ) -> Result<Next<'p>, Halt>
     ensures { (setting : Setting) (s : AnyState)
         → Leads (next_rest setting) (λ k. and_then (indices_run (entries_by how)
         (map expression_run (members_from at all.now))
-        inside setting s) (to_value k)) result s }
+        value setting s) (to_value k)) result s }
 {
     match all.as_slice().get(at) {
-        None => taken_out(inside),
+        None => Ok(give(value)),
         Some(first) => Ok(Next {
             hand: Hand::Evaluate(first),
-            waits: Some(Work::ForPart(ForPart::Entry(how, inside, all, at + 1))),
+            waits: Some(Work::ForPart(ForPart::Entry(how, value, all, at + 1))),
         }),
-    }
-}
-
-/// A value inside of another is given.
-fn taken_out<'p>(inside: Inside) -> Result<Next<'p>, Halt>
-    ensures { (setting : Setting) (s : AnyState) → Leads (next_rest setting) (λ k. to_value k inside s) result s }
-{
-    match inside.into_shared() {
-        Ok(value) => Ok(give(value)),
-        Err(_) => Err(Halt::Memory),
     }
 }
 
@@ -188,7 +177,7 @@ pub(crate) fn isset<'p>(alloc: Global, places: &'p [Place]) -> Next<'p>
         → next_rest setting result k s ≡ and_then (isset_run (map place_run places.now) setting s) (to_value k) }
 {
     match places.split_first() {
-        None => give(Shared::of(Value::Bool(true))),
+        None => give(Value::Bool(true)),
         Some((first, rest)) => values_first(
             alloc,
             &first.indices,

@@ -16,12 +16,11 @@ ghost use Rattle.dp_step_parts.specs.declared.work.Hand.TheVariants as any_hand;
 
 use crate::work::{Given, Hand, Next};
 use dp_actions::{Halt, Reading};
-use dp_shared::{Inside, Shared};
 use dp_tree::{Expression, Item, Link};
 use dp_value::{Items, Value};
 
 /// A value is given.
-pub(crate) fn give<'p>(value: Shared) -> Next<'p>
+pub(crate) fn give<'p>(value: Value) -> Next<'p>
     ensures { result ≡ record { hand = any_hand.Give (any_given.Value value); waits = None } }
 {
     Next {
@@ -31,7 +30,7 @@ pub(crate) fn give<'p>(value: Shared) -> Next<'p>
 }
 
 /// A value that was made is given.
-pub(crate) fn given<'p>(made: Result<Shared, Halt>) -> Result<Next<'p>, Halt>
+pub(crate) fn given<'p>(made: Result<Value, Halt>) -> Result<Next<'p>, Halt>
     ensures { (setting : Setting) (run : Run AnyValue) (t : AnyState) → AtOnce run made t
         → Leads (next_rest setting) (λ k. and_then run (to_value k)) result t }
 {
@@ -43,7 +42,7 @@ pub(crate) fn given<'p>(made: Result<Shared, Halt>) -> Result<Next<'p>, Halt>
 
 /// To a value that was made more is joined.
 pub(crate) fn linked<'p>(
-    made: Result<Shared, Halt>,
+    made: Result<Value, Halt>,
     links: &'p Items<Link>,
     at: usize,
 ) -> Result<Next<'p>, Halt>
@@ -81,7 +80,7 @@ pub(crate) fn lengthened<'p>(
 
 /// A value that was found is read under more indices.
 pub(crate) fn read_under<'p>(
-    found: Result<Inside, Halt>,
+    found: Result<Value, Halt>,
     how: Reading,
     indices: &'p Items<Expression>,
     at: usize,
@@ -91,8 +90,8 @@ pub(crate) fn read_under<'p>(
         (map expression_run (members_from at indices.now)) v setting u) (to_value k))) result t }
 {
     match found {
-        Ok(inside) => Ok(Next {
-            hand: Hand::Under(how, inside, indices, at),
+        Ok(value) => Ok(Next {
+            hand: Hand::Under(how, value, indices, at),
             waits: None,
         }),
         Err(why) => Err(why),

@@ -29,7 +29,7 @@ pub fn first_of<'p>(alloc: Global, hand: Hand<'p>, state: &State) -> Result<Next
         Hand::Values(before, rest, at) => Ok(values(before, rest, at)),
         Hand::Items(array, rest, at) => Ok(items(array, rest, at)),
         Hand::Links(left, rest, at) => Ok(links(left, rest, at)),
-        Hand::Under(how, inside, rest, at) => under(how, inside, rest, at),
+        Hand::Under(how, value, rest, at) => under(how, value, rest, at),
         Hand::Isset(rest) => Ok(isset(alloc, rest)),
     }
 }

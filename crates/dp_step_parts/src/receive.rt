@@ -19,11 +19,10 @@ use crate::lists::keyed_item;
 use crate::next::{give, given, lengthened, linked, read_under};
 use crate::work::{ForPart, ForValue, ForValues, Hand, Next, Work};
 use dp_actions::{
-    Halt, Reading, assign_place, builtin_call, combine, found_place, holds, inside_at, is_missing,
+    Halt, Reading, assign_place, builtin_call, combine, entry_at, found_place, holds, is_missing,
     is_missing_place, operated, present, pushed, put, read_place, step_place, value_of,
 };
 use dp_operations::unary;
-use dp_shared::{Inside, Shared};
 use dp_state::State;
 use dp_tree::{BinaryOp, Boxed, Builtin, Expression, Item, Link, Order, Place, UnaryOp};
 use dp_value::{Bytes, Items, Memory, Value, truthy};
@@ -33,7 +32,7 @@ use std::alloc::Global;
 pub(crate) fn receive_part<'p>(
     alloc: Global,
     work: ForPart<'p>,
-    value: Shared,
+    value: Value,
     state: &State,
 ) -> Result<Next<'p>, Halt>
     ensures { (setting : Setting)
@@ -54,7 +53,7 @@ pub(crate) fn receive_part<'p>(
         }),
         ForPart::Tested(links, at) => {
             Ok(Next {
-                hand: Hand::Links(Shared::of(Value::Bool(holds(value))), links, at),
+                hand: Hand::Links(Value::Bool(holds(value)), links, at),
                 waits: None,
             })
         }
@@ -62,7 +61,7 @@ pub(crate) fn receive_part<'p>(
             operate(alloc, op, left, value, links, at, state)
         }
         ForPart::Under(how, indices) => Ok(Next {
-            hand: Hand::Under(how, Inside::of(alloc, value), indices, 0),
+            hand: Hand::Under(how, value, indices, 0),
             waits: None,
         }),
         ForPart::Entry(how, holder, indices, at) => {
@@ -75,8 +74,8 @@ pub(crate) fn receive_part<'p>(
 fn put_item<'p>(
     alloc: Global,
     array: Value,
-    key: Shared,
-    value: Shared,
+    key: Value,
+    value: Value,
     rest: &'p Items<Item>,
     at: usize,
     state: &State,
@@ -86,7 +85,7 @@ fn put_item<'p>(
         state.now) result
         state.now }
 {
-    let made = put(alloc, array, key.value(), value, state);
+    let made = put(alloc, array, &key, value, state);
     drop(key);
     lengthened(made, rest, at)
 }
@@ -95,8 +94,8 @@ fn put_item<'p>(
 fn operate<'p>(
     alloc: Global,
     op: BinaryOp,
-    left: Shared,
-    right: Shared,
+    left: Value,
+    right: Value,
     links: &'p Items<Link>,
     at: usize,
     state: &State,
@@ -106,7 +105,7 @@ fn operate<'p>(
         result
         state.now }
 {
-    let made = operated(alloc, op, left, right.value(), state);
+    let made = operated(alloc, op, left, &right, state);
     drop(right);
     linked(made, links, at)
 }
@@ -115,8 +114,8 @@ fn operate<'p>(
 fn read_entry<'p>(
     alloc: Global,
     how: Reading,
-    holder: Inside,
-    index: Shared,
+    holder: Value,
+    index: Value,
     indices: &'p Items<Expression>,
     at: usize,
     state: &State,
@@ -126,15 +125,15 @@ fn read_entry<'p>(
         state.now) result
         state.now }
 {
-    let found = inside_at(alloc, how, holder, index.value(), state);
+    let found = entry_at(alloc, how, holder, &index, state);
     drop(index);
     read_under(found, how, indices, at)
 }
 
 /// Values and one more, and the expressions behind it.
 fn more<'p>(
-    before: Items<Shared>,
-    value: Shared,
+    before: Items<Value>,
+    value: Value,
     rest: &'p Items<Expression>,
     at: usize,
 ) -> Result<Next<'p>, Halt>
@@ -151,7 +150,7 @@ fn more<'p>(
 }
 
 /// Values, and one more.
-fn longer(before: Items<Shared>, value: Shared) -> Result<Items<Shared>, Memory>
+fn longer(before: Items<Value>, value: Value) -> Result<Items<Value>, Memory>
     ensures { IfOk result (λ values. values ≡ before ++ value ∷ []) }
 {
     let mut values = before.into_vec();
@@ -163,7 +162,7 @@ fn longer(before: Items<Shared>, value: Shared) -> Result<Items<Shared>, Memory>
 pub(crate) fn receive_value<'p>(
     alloc: Global,
     work: ForValue<'p>,
-    value: Shared,
+    value: Value,
     state: &mut State,
 ) -> Result<Next<'p>, Halt>
     ensures { (setting : Setting)
@@ -183,11 +182,11 @@ pub(crate) fn receive_value<'p>(
 }
 
 /// An operator takes its only operand.
-fn operate_alone<'p>(op: UnaryOp, value: Shared, state: &State) -> Result<Next<'p>, Halt>
+fn operate_alone<'p>(op: UnaryOp, value: Value, state: &State) -> Result<Next<'p>, Halt>
     ensures { (setting : Setting)
         → Leads (next_rest setting) (λ k. value_rest setting (any_value.Unary op) value k state.now) result state.now }
 {
-    let made = value_of(unary(op, value.value()), state);
+    let made = value_of(unary(op, &value), state);
     drop(value);
     given(made)
 }
@@ -196,9 +195,9 @@ fn operate_alone<'p>(op: UnaryOp, value: Shared, state: &State) -> Result<Next<'
 fn assign<'p>(
     alloc: Global,
     name: &'p Bytes,
-    indices: Items<Shared>,
+    indices: Items<Value>,
     push: bool,
-    value: Shared,
+    value: Value,
     state: &mut State,
 ) -> Result<Next<'p>, Halt>
     ensures { (setting : Setting)
@@ -216,9 +215,9 @@ fn combine_with<'p>(
     alloc: Global,
     op: BinaryOp,
     name: &'p Bytes,
-    indices: Items<Shared>,
-    old: Shared,
-    value: Shared,
+    indices: Items<Value>,
+    old: Value,
+    value: Value,
     state: &mut State,
 ) -> Result<Next<'p>, Halt>
     ensures { (setting : Setting)
@@ -226,26 +225,18 @@ fn combine_with<'p>(
         state.old)
         result state.new }
 {
-    let made = combine(
-        alloc,
-        op,
-        name,
-        indices.as_slice(),
-        old,
-        value.value(),
-        state,
-    );
+    let made = combine(alloc, op, name, indices.as_slice(), old, &value, state);
     drop(indices);
     drop(value);
     given(made)
 }
 
 /// The left operand of `??`, or the right one where it is missing.
-fn coalesce<'p>(left: Shared, right: &'p Boxed<Expression>) -> Next<'p>
+fn coalesce<'p>(left: Value, right: &'p Boxed<Expression>) -> Next<'p>
     ensures { (setting : Setting) (k : Follows) (s : AnyState)
         → next_rest setting result k s ≡ value_rest setting (any_value.Coalesce right.entry) left k s }
 {
-    if is_missing(left.value()) {
+    if is_missing(&left) {
         drop(left);
         Next {
             hand: Hand::Evaluate(right.as_ref()),
@@ -260,12 +251,12 @@ fn coalesce<'p>(left: Shared, right: &'p Boxed<Expression>) -> Next<'p>
 fn choose<'p>(
     middle: &'p Option<Boxed<Expression>>,
     otherwise: &'p Boxed<Expression>,
-    test: Shared,
+    test: Value,
 ) -> Next<'p>
     ensures { (setting : Setting) (k : Follows) (s : AnyState)
         → next_rest setting result k s ≡ value_rest setting (any_value.Choose middle.entry otherwise.entry) test k s }
 {
-    if truthy(test.value()) {
+    if truthy(&test) {
         chosen(middle, test)
     } else {
         drop(test);
@@ -277,7 +268,7 @@ fn choose<'p>(
 }
 
 /// The middle part of a conditional, or the value of its test where it has none.
-fn chosen<'p>(middle: &'p Option<Boxed<Expression>>, test: Shared) -> Next<'p>
+fn chosen<'p>(middle: &'p Option<Boxed<Expression>>, test: Value) -> Next<'p>
     ensures { (setting : Setting) (k : Follows) (s : AnyState)
         → next_rest setting result k s ≡ and_then (choice (option_map expression_run middle.now) test setting s)
         (to_value k) }
@@ -298,7 +289,7 @@ fn chosen<'p>(middle: &'p Option<Boxed<Expression>>, test: Shared) -> Next<'p>
 pub(crate) fn receive_values<'p>(
     alloc: Global,
     work: ForValues<'p>,
-    values: Items<Shared>,
+    values: Items<Value>,
     state: &mut State,
 ) -> Result<Next<'p>, Halt>
     ensures { (setting : Setting)
@@ -323,7 +314,7 @@ pub(crate) fn receive_values<'p>(
 fn call_builtin<'p>(
     alloc: Global,
     function: Builtin,
-    values: Items<Shared>,
+    values: Items<Value>,
     state: &State,
 ) -> Result<Next<'p>, Halt>
     ensures { (setting : Setting)
@@ -341,7 +332,7 @@ fn step<'p>(
     op: UnaryOp,
     order: Order,
     name: &'p Bytes,
-    indices: Items<Shared>,
+    indices: Items<Value>,
     state: &mut State,
 ) -> Result<Next<'p>, Halt>
     ensures { (setting : Setting)
@@ -359,7 +350,7 @@ fn compound<'p>(
     alloc: Global,
     op: BinaryOp,
     name: &'p Bytes,
-    indices: Items<Shared>,
+    indices: Items<Value>,
     right: &'p Boxed<Expression>,
     state: &State,
 ) -> Result<Next<'p>, Halt>
@@ -384,7 +375,7 @@ fn compound<'p>(
 fn coalesce_assign<'p>(
     alloc: Global,
     name: &'p Bytes,
-    indices: Items<Shared>,
+    indices: Items<Value>,
     right: &'p Boxed<Expression>,
     state: &State,
 ) -> Result<Next<'p>, Halt>
@@ -405,9 +396,9 @@ fn coalesce_assign<'p>(
 /// A `??=` whose place was read.
 fn or_assign<'p>(
     name: &'p Bytes,
-    indices: Items<Shared>,
+    indices: Items<Value>,
     right: &'p Boxed<Expression>,
-    old: Shared,
+    old: Value,
 ) -> Next<'p>
     ensures { (setting : Setting) (k : Follows) (s : AnyState)
         → next_rest setting result k s ≡ and_then (if missing old
@@ -429,7 +420,7 @@ fn or_assign<'p>(
 fn isset_place<'p>(
     alloc: Global,
     name: &'p Bytes,
-    indices: Items<Shared>,
+    indices: Items<Value>,
     rest: &'p [Place],
     state: &State,
 ) -> Result<Next<'p>, Halt>
@@ -453,7 +444,7 @@ fn isset_on<'p>(absent: bool, rest: &'p [Place]) -> Next<'p>
         else isset_after setting rest.now k s }
 {
     if absent {
-        give(Shared::of(Value::Bool(false)))
+        give(Value::Bool(false))
     } else {
         Next {
             hand: Hand::Isset(rest),

@@ -2,15 +2,14 @@
 //! has read, and lends its tree.
 
 use dp_actions::{Reading, Signal};
-use dp_shared::{Inside, Shared};
 use dp_tree::{BinaryOp, Boxed, Builtin, Expression, Item, Link, Order, Place, UnaryOp};
 use dp_value::{Bytes, Items, Value};
 
 /// What a finished part gives to the one that waits for it.
 #[derive(Drop)]
 pub enum Given {
-    Value(Shared),
-    Values(Items<Shared>),
+    Value(Value),
+    Values(Items<Value>),
     Signal(Signal),
 }
 
@@ -23,13 +22,13 @@ pub enum Hand<'p> {
     /// To the left of `??`.
     Find(&'p Boxed<Expression>),
     /// The values so far, and the expressions that are left.
-    Values(Items<Shared>, &'p Items<Expression>, usize),
+    Values(Items<Value>, &'p Items<Expression>, usize),
     /// A literal so far, and its items that are left.
     Items(Value, &'p Items<Item>, usize),
     /// The left operand, and what is joined to it.
-    Links(Shared, &'p Items<Link>, usize),
+    Links(Value, &'p Items<Link>, usize),
     /// A value, and the indices under which it is read. What stands on the way to an entry is not copied.
-    Under(Reading, Inside, &'p Items<Expression>, usize),
+    Under(Reading, Value, &'p Items<Expression>, usize),
     /// Places that are set as far as the first of these.
     Isset(&'p [Place]),
 }
@@ -38,23 +37,23 @@ pub enum Hand<'p> {
 #[derive(Drop)]
 pub enum ForPart<'p> {
     /// The values before it, and the expressions behind it.
-    More(Items<Shared>, &'p Items<Expression>, usize),
+    More(Items<Value>, &'p Items<Expression>, usize),
     /// The literal before an item that goes last, and the items behind it.
     PushItem(Value, &'p Items<Item>, usize),
     /// The literal before the item at a position, whose key is evaluated.
     KeyItem(Value, &'p Items<Item>, usize),
     /// The literal before an item, its key, and the items behind it.
-    PutItem(Value, Shared, &'p Items<Item>, usize),
+    PutItem(Value, Value, &'p Items<Item>, usize),
     /// The first operand of a chain is evaluated.
     Links(&'p Items<Link>),
     /// The right operand of `||` or `&&` decides.
     Tested(&'p Items<Link>, usize),
     /// The left operand of an operator, and what is joined behind it.
-    Operate(BinaryOp, Shared, &'p Items<Link>, usize),
+    Operate(BinaryOp, Value, &'p Items<Link>, usize),
     /// What is read under indices is evaluated.
     Under(Reading, &'p Items<Expression>),
     /// A value whose index is evaluated, and the indices behind it.
-    Entry(Reading, Inside, &'p Items<Expression>, usize),
+    Entry(Reading, Value, &'p Items<Expression>, usize),
 }
 
 /// An expression that waits for the value of a part.
@@ -66,9 +65,9 @@ pub enum ForValue<'p> {
     /// The test of a conditional is evaluated.
     Choose(&'p Option<Boxed<Expression>>, &'p Boxed<Expression>),
     /// The right side of an assignment under these indices.
-    Assign(&'p Bytes, Items<Shared>, bool),
+    Assign(&'p Bytes, Items<Value>, bool),
     /// The right side of a compound assignment, whose old value is read.
-    Combine(BinaryOp, &'p Bytes, Items<Shared>, Shared),
+    Combine(BinaryOp, &'p Bytes, Items<Value>, Value),
 }
 
 /// An expression that waits for values: arguments, or the indices of a place.

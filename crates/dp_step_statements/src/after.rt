@@ -19,7 +19,6 @@ use crate::next::signal;
 use crate::statements::branch;
 use crate::work::{AfterValue, EachTurns, ForSignal, ForValues, Hand, Next, Work};
 use dp_actions::{Halt, Signal, bind_all, bind_entry, exit_value, holds, print_value, unset_place};
-use dp_shared::Shared;
 use dp_state::State;
 use dp_tree::{Binding, Expression, Place};
 use dp_value::{Bytes, Items, Value};
@@ -29,7 +28,7 @@ use std::alloc::Global;
 pub(crate) fn receive_after<'p>(
     alloc: Global,
     work: AfterValue<'p>,
-    value: Shared,
+    value: Value,
     state: &mut State,
 ) -> Result<Next<'p>, Halt>
     ensures { (setting : Setting)
@@ -57,7 +56,7 @@ pub(crate) fn receive_after<'p>(
 pub(crate) fn receive_values<'p>(
     alloc: Global,
     work: ForValues<'p>,
-    values: Items<Shared>,
+    values: Items<Value>,
     state: &mut State,
 ) -> Result<Next<'p>, Halt>
     ensures { (setting : Setting)
@@ -83,7 +82,7 @@ pub(crate) fn receive_values<'p>(
 /// An operand of an `echo` is written.
 fn echoed<'p>(
     alloc: Global,
-    value: Shared,
+    value: Value,
     rest: &'p Items<Expression>,
     at: usize,
     state: &mut State,
@@ -92,7 +91,7 @@ fn echoed<'p>(
         → Leads (next_rest setting) (λ k. after_rest setting (any_after.Echoed rest.entry at) value k state.old) result
         state.new }
 {
-    let done = print_value(alloc, value.value(), state);
+    let done = print_value(alloc, &value, state);
     drop(value);
     match done {
         Ok(()) => Ok(Next {
@@ -104,11 +103,11 @@ fn echoed<'p>(
 }
 
 /// The program ends with a value.
-fn exit_with<'p>(value: Shared, state: &mut State) -> Result<Next<'p>, Halt>
+fn exit_with<'p>(value: Value, state: &mut State) -> Result<Next<'p>, Halt>
     ensures { (setting : Setting)
         → Leads (next_rest setting) (λ k. after_rest setting any_after.ExitWith value k state.old) result state.new }
 {
-    let done = exit_value(value.value(), state);
+    let done = exit_value(&value, state);
     drop(value);
     match done {
         Ok(given) => Ok(signal(given)),
@@ -120,7 +119,7 @@ fn exit_with<'p>(value: Shared, state: &mut State) -> Result<Next<'p>, Halt>
 fn unset_next<'p>(
     alloc: Global,
     name: &Bytes,
-    indices: Items<Shared>,
+    indices: Items<Value>,
     rest: &'p [Place],
     state: &mut State,
 ) -> Result<Next<'p>, Halt>
@@ -156,7 +155,7 @@ pub(crate) fn global<'p>(names: &[Bytes], state: &mut State) -> Result<Next<'p>,
 /// The entry at a position is bound, and then comes its turn.
 pub(crate) fn bind<'p>(
     turns: EachTurns<'p>,
-    subject: Shared,
+    subject: Value,
     at: usize,
     state: &mut State,
 ) -> Result<Next<'p>, Halt>
@@ -182,11 +181,11 @@ pub(crate) fn bind<'p>(
 }
 
 /// The entry at a position is bound.
-fn bind_at(binding: &Binding, subject: &Shared, at: usize, state: &mut State) -> Result<(), Halt>
+fn bind_at(binding: &Binding, subject: &Value, at: usize, state: &mut State) -> Result<(), Halt>
     ensures { (entry : EntryKey × Data) → slice_get (entries subject.now) at ≡ Some entry
         → AtOnce (bind_run binding.now entry state.old) result state.new }
 {
-    match subject.value() {
+    match subject {
         Value::Array(array) => bind_entry(binding, array, at, state),
         _ => Ok(()),
     }

@@ -12,11 +12,10 @@ ghost use Rattle.dp_step_parts.specs.Rest.{to_value};
 use crate::next::{given, values_first};
 use crate::work::{ForValues, Hand, Next, Work};
 use dp_actions::{Callee, Halt, fatal, file_named_by, look_up, not_included};
-use dp_shared::Shared;
 use dp_state::{FatalKind, State};
 use dp_step_parts::{ForValues as PartValues, Work as PartWork};
 use dp_tree::{Bundle, Expression, Inclusion};
-use dp_value::{Bytes, Items};
+use dp_value::{Bytes, Items, Value};
 use std::alloc::Global;
 
 /// The call of a name.
@@ -49,14 +48,14 @@ pub(crate) fn include<'p>(
     alloc: Global,
     bundle: &'p Bundle,
     how: Inclusion,
-    name: Shared,
+    name: Value,
     state: &State,
 ) -> Result<Next<'p>, Halt>
     ensures { (setting : Setting) → setting.bundle ≡ bundle.now
         → Leads (next_rest setting) (λ k. and_then (include_run how name setting state.now) (to_value k)) result
         state.now }
 {
-    let found = file_named_by(alloc, bundle, name.value());
+    let found = file_named_by(alloc, bundle, &name);
     drop(name);
     match found {
         Ok(file) => included(how, file, state),

@@ -22,7 +22,6 @@ use crate::next::give;
 use crate::statements::{arms, begin, begin_arm, begin_at, each, echo, unset};
 use crate::work::{AfterValue, ForSignal, ForValues, Hand, Next, Small, Work};
 use dp_actions::{Halt, Signal, returned};
-use dp_shared::Shared;
 use dp_state::State;
 use dp_step_parts::{Given, Hand as PartHand, Next as PartNext, first_of as first_part, give_to};
 use dp_tree::{Bundle, Expression, Inclusion};
@@ -168,11 +167,11 @@ fn first_of_turn<'p>(alloc: Global, hand: Hand<'p>, state: &mut State) -> Result
         Hand::Bind(turns, subject, at) => moved(bind(turns, subject, at, state)),
         Hand::Left(signal) => Ok(Small {
             moment: None,
-            next: leave(Shared::of(Value::Null), signal, state),
+            next: leave(Value::Null, signal, state),
         }),
         Hand::LeftFile(signal) => Ok(Small {
             moment: None,
-            next: leave(Shared::of(Value::Int(1)), signal, state),
+            next: leave(Value::Int(1), signal, state),
         }),
         Hand::Over(outcome) => Err(Halt::Finished(outcome)),
         Hand::Failed => Err(Halt::Memory),
@@ -199,7 +198,7 @@ fn moved<'p>(next: Result<Next<'p>, Halt>) -> Result<Small<'p>, Halt>
 }
 
 /// The frame of a call or a file that is done goes. It gives what its statements gave, or this where they gave none.
-fn leave<'p>(none: Shared, signal: Signal, state: &mut State) -> Next<'p>
+fn leave<'p>(none: Value, signal: Signal, state: &mut State) -> Next<'p>
     ensures { (setting : Setting) (k : Follows)
         → next_rest setting result k state.new ≡ given_value k (value_returned none signal) (left state.old) }
 {

@@ -16,7 +16,6 @@ use crate::work::{
     AfterValue, DoTurns, EachTurns, ForSignal, ForValues, Hand, Head, Next, Small, Turns, Work,
 };
 use dp_actions::{LoopStep, Signal, after_body, last_holds};
-use dp_shared::Shared;
 use dp_state::{MomentKind, Outcome};
 use dp_step_parts::Hand as PartHand;
 use dp_value::{Items, Value};
@@ -78,7 +77,7 @@ pub(crate) fn tested<'p>(turns: Turns<'p>, left: u64, holds: bool) -> Next<'p>
 }
 
 /// Whether the last of the values of a test holds; without one there is no end.
-pub(crate) fn test_holds(values: Items<Shared>) -> bool
+pub(crate) fn test_holds(values: Items<Value>) -> bool
     ensures { result ≡ ends_true values }
 {
     let holds = last_holds(values.as_slice());
@@ -120,7 +119,7 @@ pub(crate) fn do_tested<'p>(turns: DoTurns<'p>, left: u64, holds: bool) -> Next<
 }
 
 /// The turns of a `foreach` from the entry at a position on.
-pub(crate) fn each_turn<'p>(turns: EachTurns<'p>, subject: Shared, at: usize) -> Small<'p>
+pub(crate) fn each_turn<'p>(turns: EachTurns<'p>, subject: Value, at: usize) -> Small<'p>
     ensures { (setting : Setting) (k : Follows) (s : AnyState)
         → small_rest setting result k s ≡ and_then (each_from setting turns.entry subject at s) (to_signal k) }
 {
@@ -142,10 +141,10 @@ pub(crate) fn each_turn<'p>(turns: EachTurns<'p>, subject: Shared, at: usize) ->
 }
 
 /// How many entries a `foreach` walks.
-pub(crate) fn entry_count(subject: &Shared) -> usize
+pub(crate) fn entry_count(subject: &Value) -> usize
     ensures { result ≡ length (entries subject.now) }
 {
-    match subject.value() {
+    match subject {
         Value::Array(array) => array.len(),
         _ => 0,
     }
@@ -232,7 +231,7 @@ fn do_over<'p>(turns: DoTurns<'p>, left: u64, given: Signal) -> Small<'p>
 }
 
 /// The body of a turn of a `foreach` is over.
-fn each_over<'p>(turns: EachTurns<'p>, subject: Shared, at: usize, given: Signal) -> Small<'p>
+fn each_over<'p>(turns: EachTurns<'p>, subject: Value, at: usize, given: Signal) -> Small<'p>
     ensures { (setting : Setting) (k : Follows) (s : AnyState)
         → small_rest setting result k s ≡ and_then (over given (each_from setting turns.entry subject at) s)
         (to_signal k) }

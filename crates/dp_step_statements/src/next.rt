@@ -16,14 +16,13 @@ ghost use Rattle.dp_step_parts.specs.declared.work.Hand.TheVariants as any_part;
 
 use crate::work::{Hand, Next, Work};
 use dp_actions::{Halt, Signal};
-use dp_shared::Shared;
 use dp_step_parts::{Given, Hand as PartHand};
 use dp_tree::Expression;
-use dp_value::Items;
+use dp_value::{Items, Value};
 use std::alloc::Global;
 
 /// A value is given.
-pub(crate) fn give<'p>(value: Shared) -> Next<'p>
+pub(crate) fn give<'p>(value: Value) -> Next<'p>
     ensures { result ≡ record { hand = any_hand.Part (any_part.Give (any_given.Value value)); waits = None } }
 {
     Next {
@@ -43,7 +42,7 @@ pub(crate) fn signal<'p>(signal: Signal) -> Next<'p>
 }
 
 /// A value that was made is given.
-pub(crate) fn given<'p>(made: Result<Shared, Halt>) -> Result<Next<'p>, Halt>
+pub(crate) fn given<'p>(made: Result<Value, Halt>) -> Result<Next<'p>, Halt>
     ensures { (setting : Setting) (run : Run AnyValue) (t : AnyState) → AtOnce run made t
         → Leads (next_rest setting) (λ k. and_then run (to_value k)) result t }
 {

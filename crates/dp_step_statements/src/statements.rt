@@ -20,7 +20,6 @@ use crate::work::{
     AfterValue, DoTurns, EachTurns, ForSignal, ForValues, Hand, Head, Next, Small, Turns, Work,
 };
 use dp_actions::Signal;
-use dp_shared::Shared;
 use dp_state::{MomentKind, Outcome};
 use dp_step_parts::Hand as PartHand;
 use dp_tree::{Arm, Boxed, Expression, Place, Statement, StatementKind};
@@ -154,7 +153,7 @@ fn return_value<'p>(value: &'p Option<Expression>) -> Next<'p>
         → next_rest setting result k s ≡ and_then (return_run value.now setting s) (to_signal k) }
 {
     match value {
-        None => signal(Signal::Return(Shared::of(Value::Null))),
+        None => signal(Signal::Return(Value::Null)),
         Some(e) => Next {
             hand: Hand::Part(PartHand::Evaluate(e)),
             waits: Some(Work::AfterValue(AfterValue::ReturnIt)),

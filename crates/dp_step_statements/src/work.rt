@@ -2,11 +2,10 @@
 //! with the values that it has read, and lends its tree.
 
 use dp_actions::Signal;
-use dp_shared::Shared;
 use dp_state::{MomentKind, Outcome};
 use dp_step_parts::{Hand as PartHand, Work as PartWork};
 use dp_tree::{Arm, Binding, Boxed, Expression, Function, Inclusion, Place, Statement};
-use dp_value::{Bytes, Items};
+use dp_value::{Bytes, Items, Value};
 
 /// What stands at the head of a loop of turns.
 #[derive(Clone, Copy)]
@@ -47,7 +46,7 @@ pub enum Hand<'p> {
     /// A part of an expression.
     Part(PartHand<'p>),
     /// A call of a function of the file of this number.
-    Call(u32, &'p Function, Items<Shared>),
+    Call(u32, &'p Function, Items<Value>),
     /// An inclusion of the file of this number.
     Include(u32),
     /// A statement.
@@ -71,9 +70,9 @@ pub enum Hand<'p> {
     /// At most so many turns.
     DoTurn(DoTurns<'p>, u64),
     /// The turns from the entry at a position on.
-    EachTurn(EachTurns<'p>, Shared, usize),
+    EachTurn(EachTurns<'p>, Value, usize),
     /// The entry at a position is bound, and then its turn comes.
-    Bind(EachTurns<'p>, Shared, usize),
+    Bind(EachTurns<'p>, Value, usize),
     /// A call whose body is done has left.
     Left(Signal),
     /// An included file is done.
@@ -128,7 +127,7 @@ pub enum ForSignal<'p> {
     /// The body of a turn of a `do`.
     DoBody(DoTurns<'p>, u64),
     /// The body of a turn of a `foreach`, the subject, and the position of the entry behind it.
-    EachBody(EachTurns<'p>, Shared, usize),
+    EachBody(EachTurns<'p>, Value, usize),
 }
 
 /// A part that waits for what is in hand.

@@ -1,14 +1,16 @@
 -- What the removal of an entry leaves, and that it adds no weight.
-use Rattle.std.proofs.Common.{◌≡◌, ℤ, ◌≤◌, ◌==◌, Bool, true, false, if◌then◌else◌, List, [], ◌∷◌, Option, Some, None, Result, Ok, Err, IfErr, OnOk, OnErr, length, refl, ap, sym, ◌∙◌, arith}
+use Rattle.std.proofs.Common.{◌≡◌, ℤ, ◌≤◌, ◌==◌, Bool, true, false, if◌then◌else◌, List, [], ◌∷◌, Option, Some, None, Result, Ok, Err, IfErr, IsOk, OnOk, OnErr, length, inl, inr, refl, ap, sym, subst, ◌∙◌, arith}
+use Rattle.std.proofs.lemmas.Bool.{false≢true}
 use Rattle.std.proofs.lemmas.Option.{same_Some}
 use Rattle.dp_value.specs.declared.errors.WriteError.{WriteError}
 use Rattle.dp_value.specs.declared.key.Key.{Key}
 use Rattle.dp_value.specs.inner.Codes.{table_from-data_of_table}
 use Rattle.dp_value.specs.Key.{key_eq}
 use Rattle.dp_value.specs.Data.{Data, Entries, Table, null, boolean, integer, text, array, no_entries, entry, pairs_of, weight_of, entries_weight, pairs_weight, data_of_table}
-use Rattle.dp_value.specs.Table.{find_value, swapped, table_exchange, table_remove, take_away, value_at, weight_limit, IsTable}
+use Rattle.dp_value.specs.Table.{empty, find_value, swapped, table_exchange, table_remove, take_away, value_at, weight_limit, IsTable}
 use Rattle.dp_value.proofs.WriteLemmas.{exchange-same, swapped-swapped}
-use Rattle.dp_value.specs.Entry.{in_array, removed, then_data, then_key, with_entry}
+use Rattle.dp_value.specs.Entry.{in_array, removed, then_data, then_key, with_entry, IsCause}
+use Rattle.dp_value.specs.inner.Removals.{removed_in, IsAnswer}
 
 -- ---- weights
 weight-swapped-more : (p : Key × Data) (ps : List (Key × Data)) (key : Key) (d e : Data) (b : Bool) → key_eq key p.0 ≡ b
@@ -93,35 +95,85 @@ removed-lighter (Some k ∷ keys) (array es largest) e h =
 in-table : (t : Table) (f : Table → Result Data WriteError) → in_array (data_of_table t) f ≡ f t
 in-table t f = ap f (table_from-data_of_table t)
 
-module _ (key : Option Key) (k : Key) (rest : List (Option Key)) (t : Table) (is : key ≡ Some k) where
-  under : removed (key ∷ rest) (data_of_table t) ≡ (if length rest == 0 then Ok (data_of_table (table_remove t k))
-      else with_entry t k (removed rest) (value_at t k))
-  under =
-      in-table t (λ u. then_key key (λ x. if length rest == 0 then Ok (data_of_table (table_remove u x))
-      else with_entry u x (removed rest) (value_at u x)))
-      ∙ ap (λ (o : Option Key). then_key o (λ x. if length rest == 0 then Ok (data_of_table (table_remove t x))
-      else with_entry t x (removed rest) (value_at t x))) is
+pub removed-under : (key : Option Key) (k : Key) (rest : List (Option Key)) (t : Table) → key ≡ Some k
+    → removed (key ∷ rest) (data_of_table t) ≡ removed_in k rest t
+removed-under key k rest t is =
+    in-table t (λ u. then_key key (λ x. removed_in x rest u)) ∙ ap (λ (o : Option Key). then_key o
+    (λ x. removed_in x rest t)) is
 
-  pub removed-here : (length rest == 0) ≡ true
-      → removed (key ∷ rest) (data_of_table t) ≡ Ok (data_of_table (table_remove t k))
-  removed-here last =
-      under ∙ ap (λ b. if b then Ok (data_of_table (table_remove t k))
-      else with_entry t k (removed rest) (value_at t k)) last
+empty-by : (k : Key) (rest : List (Option Key)) (b : Bool)
+    → (if b then Ok (data_of_table (table_remove empty k)) else with_entry empty k (removed rest) (value_at empty k))
+    ≡ Ok (data_of_table empty)
+empty-by k rest true = refl
+empty-by k rest false = refl
 
-  removed-further : (length rest == 0) ≡ false
-      → removed (key ∷ rest) (data_of_table t) ≡ with_entry t k (removed rest) (value_at t k)
-  removed-further more =
-      under ∙ ap (λ b. if b then Ok (data_of_table (table_remove t k))
-      else with_entry t k (removed rest) (value_at t k)) more
+-- nothing is removed from an array that never had an entry
+pub removed-empty : (k : Key) (rest : List (Option Key)) → removed_in k rest empty ≡ Ok (data_of_table empty)
+removed-empty k rest = empty-by k rest (length rest == 0)
+
+take_away-missing-more : (p : Key × Data) (ps : List (Key × Data)) (k : Key) (b : Bool) → key_eq k p.0 ≡ b
+    → (find_value (key_eq k) ps ≡ None → take_away ps k ≡ ps) → find_value (key_eq k) (p ∷ ps) ≡ None
+    → take_away (p ∷ ps) k ≡ p ∷ ps
+take_away-missing-more p ps k true h rest missing = let none : Some p.1 ≡ None = rw h at missing in cc
+take_away-missing-more p ps k false h rest missing = rw h (ap (λ qs. p ∷ qs) (rest (rw h at missing)))
+
+take_away-missing : (ps : List (Key × Data)) (k : Key) → find_value (key_eq k) ps ≡ None → take_away ps k ≡ ps
+take_away-missing [] k missing = refl
+take_away-missing (p ∷ ps) k missing =
+    take_away-missing-more p ps k (key_eq k p.0) refl (take_away-missing ps k) missing
+
+-- nothing is removed where the key is not there
+pub nothing-removed : (t : Table) (k : Key) → value_at t k ≡ None → t ≡ table_remove t k
+nothing-removed t k missing =
+    λ i. record { pairs = sym (take_away-missing t.pairs k missing) i; largest = t.largest }
+
+module _ (k : Key) (rest : List (Option Key)) (t : Table) where
+  abbrev by : Bool → Result Data WriteError
+  by b = if b then Ok (data_of_table (table_remove t k)) else with_entry t k (removed rest) (value_at t k)
+
+  pub removed-here : (length rest == 0) ≡ true → removed_in k rest t ≡ Ok (data_of_table (table_remove t k))
+  removed-here last = ap by last
+
+  removed-further : (length rest == 0) ≡ false → removed_in k rest t ≡ with_entry t k (removed rest) (value_at t k)
+  removed-further more = ap by more
 
   pub removed-missing : (length rest == 0) ≡ false → value_at t k ≡ None
-      → removed (key ∷ rest) (data_of_table t) ≡ Ok (data_of_table t)
+      → removed_in k rest t ≡ Ok (data_of_table t)
   removed-missing more missing = removed-further more ∙ ap (with_entry t k (removed rest)) missing
 
   pub removed-behind : (length rest == 0) ≡ false → (child : Data) → value_at t k ≡ Some child →
-      removed (key ∷ rest) (data_of_table t) ≡ then_data (removed rest child)
-      (λ e. data_of_table (table_exchange t k e))
+      removed_in k rest t ≡ then_data (removed rest child) (λ e. data_of_table (table_exchange t k e))
   removed-behind more child there = removed-further more ∙ ap (with_entry t k (removed rest)) there
+
+  absent-by : (b : Bool) → (length rest == 0) ≡ b → value_at t k ≡ None → removed_in k rest t ≡ Ok (data_of_table t)
+  absent-by true last missing =
+      removed-here last
+      ∙ ap (λ (u : Table). let r : Result Data WriteError = Ok (data_of_table u) in r) (sym
+      (nothing-removed t k missing))
+  absent-by false more missing = removed-missing more missing
+
+  -- nothing is removed where the key is not there
+  pub removed-absent : value_at t k ≡ None → removed_in k rest t ≡ Ok (data_of_table t)
+  removed-absent missing = absent-by (length rest == 0) refl missing
+
+  ok-behind : (r : Result Data WriteError) → IsOk r → IsOk (then_data r (λ e. data_of_table (table_exchange t k e)))
+  ok-behind (Ok d) h = refl
+  ok-behind (Err e) h = h
+
+  -- what is answered at once of an entry, is answered of its array
+  module _ {X : Type 0} (child : Data) (more : (length rest == 0) ≡ false) (there : value_at t k ≡ Some child) where
+    pub answer-behind : (r : Option (Result X WriteError)) → IsAnswer (removed rest child) child r
+        → IsAnswer (removed_in k rest t) (data_of_table t) r
+    answer-behind None h =
+        subst (λ (r : Result Data WriteError). IsOk r) (sym (removed-behind more child there))
+        (ok-behind (removed rest child) h)
+    answer-behind (Some (Ok x)) h =
+        removed-behind more child there
+        ∙ ap (λ (r : Result Data WriteError). then_data r (λ e. data_of_table (table_exchange t k e))) h
+        ∙ ap (λ (u : Table). let r : Result Data WriteError = Ok (data_of_table u) in r) (exchange-same t k child there)
+    answer-behind (Some (Err why)) h =
+        removed-behind more child there
+        ∙ ap (λ (r : Result Data WriteError). then_data r (λ e. data_of_table (table_exchange t k e))) h
 
   -- the value under the key is taken out, changed, and put back
   module _ (child : Data) (more : (length rest == 0) ≡ false) (there : value_at t k ≡ Some child)
@@ -143,22 +195,45 @@ module _ (key : Option Key) (k : Key) (rest : List (Option Key)) (t : Table) (is
     back-light (Err e) d done err = back-weight d (omega (arith, ap weight_of err))
 
     pub back-ok : {X : Type 0} (r : Result X WriteError) (d : Data) (after : Table) → after ≡ table_exchange t k d
-        → OnOk r (removed rest child ≡ Ok d) →
-        OnOk r (removed (key ∷ rest) (data_of_table t) ≡ Ok (data_of_table after))
+        → OnOk r (removed rest child ≡ Ok d) → OnOk r (removed_in k rest t ≡ Ok (data_of_table after))
     back-ok (Ok x) d after h done =
         removed-behind more child there
         ∙ ap (λ (r : Result Data WriteError). then_data r (λ e. data_of_table (table_exchange t k e))) done
         ∙ ap (λ (u : Table). let r : Result Data WriteError = Ok (data_of_table u) in r) (sym h)
     back-ok (Err e) d after h done = tt
 
-    pub back-refused : {X : Type 0} (r : Result X WriteError) → IfErr r (λ e. removed rest child ≡ Err e)
-        → IfErr r (λ e. removed (key ∷ rest) (data_of_table t) ≡ Err e)
+    cause-behind : (e : WriteError) → IsCause (removed rest child) e → IsCause (removed_in k rest t) e
+    cause-behind e (inl memory) = inl memory
+    cause-behind e (inr h) =
+        inr (removed-behind more child there
+        ∙ ap (λ (r : Result Data WriteError). then_data r (λ x. data_of_table (table_exchange t k x))) h)
+
+    pub back-refused : {X : Type 0} (r : Result X WriteError) → IfErr r (IsCause (removed rest child))
+        → IfErr r (IsCause (removed_in k rest t))
     back-refused (Ok x) h = tt
-    back-refused (Err e) h =
-        removed-behind more child there
-        ∙ ap (λ (r : Result Data WriteError). then_data r (λ x. data_of_table (table_exchange t k x))) h
+    back-refused (Err e) h = cause-behind e h
 
     pub back-err : {X : Type 0} (r : Result X WriteError) (d : Data) (after : Table) → after ≡ table_exchange t k d
         → OnErr r (d ≡ child) → OnErr r (after ≡ t)
     back-err (Ok x) d after h err = tt
     back-err (Err e) d after h err = h ∙ ap (table_exchange t k) err ∙ exchange-same t k child there
+
+-- ---- what is answered at once
+module _ {X : Type 0} (asked : Result Data WriteError) (d : Data) where
+  pub answered-ok : (r : Result X WriteError) → IsAnswer asked d (Some r) → OnOk r (asked ≡ Ok d)
+  answered-ok (Ok x) h = h
+  answered-ok (Err e) h = tt
+
+  pub answered-refused : (r : Result X WriteError) → IsAnswer asked d (Some r) → IfErr r (IsCause asked)
+  answered-refused (Ok x) h = tt
+  answered-refused (Err e) h = inr h
+
+  pub answered-sure : (r : Result X WriteError) → IsAnswer asked d (Some r) → (why : WriteError) → asked ≡ Err why
+      → r ≡ Err why
+  answered-sure (Ok x) h why refused = cc
+  answered-sure (Err e) h why refused = cc
+
+-- what is sure to be done is not refused
+pub asked-ok : (asked : Result Data WriteError) → IsOk asked → (why : WriteError) → asked ≡ Err why → ⊥
+asked-ok (Ok d) h why refused = cc
+asked-ok (Err e) h why refused = false≢true h

@@ -1,4 +1,5 @@
 -- How values are kept and told to the logic. No public clause cites these.
+pub mod Texts
 pub mod Codes
 pub mod Sizes
 pub mod Behind
@@ -8,3 +9,4 @@ pub mod Kept
 pub mod Inside
 pub mod Falls
 pub mod Writes
+pub mod Removals

@@ -1,6 +1,6 @@
 //! Byte strings.
 
-ghost use Rattle.std.specs.Prelude.{◌≡◌, ◌==◌, pos, length, IfOk};
+ghost use Rattle.std.specs.Prelude.{◌≡◌, ◌==◌, ◌++◌, pos, length, IfOk, OnOk, OnErr};
 
 use crate::Memory;
 use std::alloc::Global;
@@ -105,6 +105,14 @@ impl Bytes {
         ensures { result.items ≡ self }
     {
         self.bytes
+    }
+
+    /// Puts a piece behind the bytes. After a refusal they are as before.
+    pub fn append(&mut self, piece: &[u8]) -> Result<(), Memory>
+        ensures ok { OnOk result (self.new ≡ self.old ++ piece.now) }
+        ensures err { OnErr result (self.new ≡ self.old) }
+    {
+        self.bytes.extend_from_slice(piece)
     }
 
     /// An equal byte string.

@@ -11,9 +11,10 @@ ghost use Rattle.dp_value.specs.inner.Writes.{IsTooMuch};
 use crate::key_column::KeyColumn;
 use crate::rows::{forget, place, store, take_out};
 use crate::value::Columns;
-use crate::{Key, Value, ValueError, WEIGHT_LIMIT, weight};
+use crate::{Key, Memory, Value, ValueError, WEIGHT_LIMIT, weight};
 use std::alloc::Global;
 use std::mem;
+use std::rc::Rc;
 
 impl Columns {
     /// The array without entries, in which no integer key was ever used. Takes no memory.
@@ -124,6 +125,17 @@ impl Columns {
         if weight > WEIGHT_LIMIT {
             return Err(ValueError::TooHeavy);
         }
+        Ok(self.insert(key, value, weight)?)
+    }
+
+    /// Puts a value under a key, where the entries weigh so much with it and that is within the limit. After a refusal
+    /// the array is as before.
+    pub(crate) fn insert(&mut self, key: Key, value: Value, weight: u64) -> Result<(), Memory>
+        requires weighs { weight ≡ pairs_weight (put self.old.pairs key (data_of value)) }
+        requires light { weight ≤ weight_limit }
+        ensures ok { OnOk result (self.new ≡ table_set self.old key (data_of value)) }
+        ensures err { OnErr result (self.new ≡ self.old) }
+    {
         let largest = raised(self.largest, &key);
         forget(&mut self.keys, &mut self.values, &mut self.gone, &key);
         store(&mut self.keys, &mut self.values, self.gone, key, value)?;
@@ -163,15 +175,31 @@ impl Columns {
     }
 }
 
+/// Puts a value under a key of what an array keeps, which is copied first where it has other owners.
+///
+/// `TooHeavy` comes as in `Columns::set`, whatever memory there is. After a refusal the array is as before.
+pub(crate) fn set_in(columns: &mut Rc<Columns>, key: Key, value: Value) -> Result<(), ValueError>
+    ensures ok { OnOk result (columns.new.value ≡ table_set columns.old.value key (data_of value)) }
+    ensures too_heavy { IsErrOf result ValueError.TooHeavy ↔ IsTooMuch columns.old.value.pairs key (data_of value) }
+    ensures only { IfErr result (λ e. (e ≡ ValueError.TooHeavy) ⊎ (e ≡ ValueError.Memory)) }
+    ensures err { OnErr result (columns.new.value ≡ columns.old.value) }
+{
+    let weight = columns.weight_with(&key, &value);
+    if weight > WEIGHT_LIMIT {
+        return Err(ValueError::TooHeavy);
+    }
+    Ok(Rc::make_mut(columns)?.insert(key, value, weight)?)
+}
+
 /// The columns of an array with one entry.
-pub(crate) fn first_entry(alloc: Global, key: Key, value: Value) -> Result<Box<Columns>, ValueError>
+pub(crate) fn first_entry(alloc: Global, key: Key, value: Value) -> Result<Rc<Columns>, ValueError>
     ensures ok { IfOk result (λ b. b.value ≡ table_set empty key (data_of value)) }
     ensures too_heavy { IsErrOf result ValueError.TooHeavy ↔ IsTooMuch [] key (data_of value) }
     ensures only { IfErr result (λ e. (e ≡ ValueError.TooHeavy) ⊎ (e ≡ ValueError.Memory)) }
 {
     let mut columns = Columns::new(alloc);
     columns.set(key, value)?;
-    Ok(Box::new(alloc, columns)?)
+    Ok(Rc::new(alloc, columns)?)
 }
 
 /// The largest integer key ever used, once this key is used too.

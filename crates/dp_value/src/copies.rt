@@ -1,13 +1,13 @@
-//! Copies of values.
+//! Copies of values, which share what they keep until one of them is written.
 
 ghost use Rattle.std.specs.Prelude.{◌≡◌, IfOk};
 
 use crate::value::Columns;
 use crate::{Memory, PhpArray, Value};
+use std::clone::Clone;
 
 impl Value {
-    /// An equal value.
-    #[cycle(copying)]
+    /// The same value for one more owner. Copies nothing of what it holds.
     pub fn try_clone(&self) -> Result<Value, Memory>
         ensures { IfOk result (λ copy. copy ≡ self.now) }
     {
@@ -22,25 +22,23 @@ impl Value {
 }
 
 impl PhpArray {
-    /// An equal array, with the same largest integer key.
-    #[cycle(copying)]
+    /// The same array for one more owner, with the same largest integer key. Copies nothing of what it
+    /// holds.
     pub fn try_clone(&self) -> Result<PhpArray, Memory>
         ensures { IfOk result (λ copy. copy ≡ self.now) }
     {
-        let Some(columns) = &self.columns else {
-            return Ok(PhpArray::new(self.alloc));
-        };
-        let copy = Box::new(self.alloc, columns.try_clone()?)?;
-        Ok(PhpArray {
-            alloc: self.alloc,
-            columns: Some(copy),
-        })
+        match &self.columns {
+            None => Ok(PhpArray::new(self.alloc)),
+            Some(columns) => Ok(PhpArray {
+                alloc: self.alloc,
+                columns: Some(columns.clone()?),
+            }),
+        }
     }
 }
 
 impl Columns {
-    /// Equal columns, of what is left alone.
-    #[cycle(copying)]
+    /// Equal columns, of what is left alone. What the values hold is shared.
     #[tactic(auto, using(crate::proofs::RowLemmas::nulls_within))]
     pub(crate) fn try_clone(&self) -> Result<Columns, Memory>
         ensures { IfOk result (λ copy. copy ≡ self.now) }
@@ -59,5 +57,16 @@ impl Columns {
             largest: self.largest,
             weight: self.weight,
         })
+    }
+}
+
+/// Equal columns, as one owner among several gets them before it writes.
+impl Clone for Columns {
+    ghost use Rattle.std.specs.Prelude.{◌≡◌};
+
+    ghost is_clone = { λ columns copy. copy ≡ columns };
+
+    fn clone(&self) -> Result<Columns, Memory> {
+        self.try_clone()
     }
 }

@@ -2,14 +2,14 @@
 
 ghost use Rattle.std.specs.Prelude.{◌≡◌, IfOk};
 
-use crate::{Bytes, Memory, Value};
+use crate::{Memory, Text, Value};
 
 /// A key of an array: a 64-bit integer, or a byte string that does not spell one.
 /// Source: the PHP manual, "Arrays".
 #[derive(Debug, PartialEq, Eq, Hash, Drop)]
 pub enum Key {
     Int(i64),
-    Text(Bytes),
+    Text(Text),
 }
 
 impl Key {
@@ -17,7 +17,7 @@ impl Key {
     ghost use Rattle.dp_value.specs.Key.{key_eq, key_weight};
     ghost use Rattle.dp_value.specs.Value.{data_of};
 
-    /// A copy with bytes of its own. An integer takes no memory.
+    /// The same key for one more owner. Its bytes are not copied.
     pub fn try_clone(&self) -> Result<Key, Memory>
         ensures { IfOk result (λ copy. copy ≡ self.now) }
     {

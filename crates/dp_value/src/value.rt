@@ -1,16 +1,17 @@
 //! The values of the language.
 
-ghost use Rattle.std.specs.Prelude.{◌≡◌, ◌==◌, ◌<◌, ◌≤◌, ◌↔◌, ◌⊎◌, min, length, map, slice_get, is_some, option_map};
-ghost use Rattle.std.specs.Prelude.{Some, OnOk, OnErr, IfErr, IsErrOf};
+ghost use Rattle.std.specs.Prelude.{◌≡◌, ◌==◌, ◌<◌, ◌↔◌, ◌⊎◌, length, map, slice_get, is_some, option_map};
+ghost use Rattle.std.specs.Prelude.{None, Some, Ok, false, OnOk, OnErr, IfOk, IfErr, IsErrOf};
 ghost use Rattle.dp_value.specs.Data.{pairs_weight};
 ghost use Rattle.dp_value.specs.Table.{empty, keys_of, values_of, value_at, put, table_set, table_push, table_remove};
-ghost use Rattle.dp_value.specs.Table.{table_exchange, swapped, weight_limit, largest_int, IsTable};
+ghost use Rattle.dp_value.specs.Table.{weight_limit, largest_int, IsTable};
 
-use crate::columns::first_entry;
+use crate::columns::{first_entry, set_in};
 use crate::key_column::KeyColumn;
-use crate::{Bytes, Key, ValueError, weight};
+use crate::{Key, Memory, Text, ValueError};
 use std::alloc::Global;
 use std::marker::Model;
+use std::rc::Rc;
 
 /// The most that a text or an array may weigh.
 pub const WEIGHT_LIMIT: u64 = 1_048_576;
@@ -22,18 +23,18 @@ pub enum Value {
     Null,
     Bool(bool),
     Int(i64),
-    Text(Bytes),
+    Text(Text),
     Array(PhpArray),
 }
 
 /// An ordered map from keys to values. Contracts see the pairs in order, whose keys are distinct,
-/// and the largest integer key ever used, if any. It points to what it keeps, and takes no memory
-/// before the first entry.
+/// and the largest integer key ever used, if any. It points to what it keeps, which may have several
+/// owners, and takes no memory before the first entry.
 #[cycle(value)]
 #[derive(Debug, Drop)]
 pub struct PhpArray {
     pub(crate) alloc: Global,
-    pub(crate) columns: Option<Box<Columns>>,
+    pub(crate) columns: Option<Rc<Columns>>,
 }
 
 impl Model for PhpArray {
@@ -187,16 +188,6 @@ impl PhpArray {
         }
     }
 
-    /// What the entries would weigh with this value under this key, or the largest `u64` where it is more.
-    pub(crate) fn weight_with(&self, key: &Key, value: &Value) -> u64
-        ensures { result ≡ min (pairs_weight (put self.now.pairs key.now (data_of value.now))) u64.MAX }
-    {
-        match &self.columns {
-            None => weight(value).saturating_add(1).saturating_add(key.weight()),
-            Some(columns) => columns.weight_with(key, value),
-        }
-    }
-
     /// Puts a value under a key. A present key keeps its place, a new one goes last.
     ///
     /// `TooHeavy` comes exactly where the entries would weigh more than `WEIGHT_LIMIT`. After a
@@ -209,7 +200,7 @@ impl PhpArray {
         ensures err { OnErr result (self.new ≡ self.old) }
     {
         if let Some(columns) = &mut self.columns {
-            return columns.set(key, value);
+            return set_in(columns, key, value);
         }
         self.columns = Some(first_entry(self.alloc, key, value)?);
         Ok(())
@@ -236,31 +227,21 @@ impl PhpArray {
         }
     }
 
-    /// Puts a value in the place of the one under a key, and gives that one out. Where the key is not
-    /// there, nothing changes. The caller shows that the entries stay within the limit, and may use what
-    /// holds of every array. Takes no memory.
-    #[tactic(auto, using(crate::proofs::BehindLemmas::table_of_nothing))]
-    pub(crate) fn exchange(&mut self, key: &Key, value: Value) -> Option<Value>
-        requires { IsTable self.old → pairs_weight (swapped self.old.pairs key.now (data_of value)) ≤ weight_limit }
-        ensures value { option_map data_of result ≡ value_at self.old key.now }
-        ensures exchanged { self.new ≡ table_exchange self.old key.now (data_of value) }
-        ensures table { IsTable self.old }
-    {
-        let Some(columns) = &mut self.columns else {
-            return None;
-        };
-        columns.exchange(key, value)
-    }
-
     /// Removes a key and its value, and says whether the key was there. The entries close up, and the
-    /// largest integer key ever used stays. Takes no memory.
-    pub fn remove(&mut self, key: &Key) -> bool
-        ensures found { result ≡ is_some (value_at self.old key.now) }
-        ensures removed { self.new ≡ table_remove self.old key.now }
+    /// largest integer key ever used stays. Takes no memory where the key is not there, nor where what
+    /// the array keeps has no other owner: else it is copied first. After a refusal the array is as before.
+    pub fn remove(&mut self, key: &Key) -> Result<bool, Memory>
+        ensures found { IfOk result (λ found. found ≡ is_some (value_at self.old key.now)) }
+        ensures removed { OnOk result (self.new ≡ table_remove self.old key.now) }
+        ensures idle { value_at self.old key.now ≡ None → result ≡ Ok false }
+        ensures err { OnErr result (self.new ≡ self.old) }
     {
+        let Some(_) = self.get(key) else {
+            return Ok(false);
+        };
         match &mut self.columns {
-            None => false,
-            Some(columns) => columns.remove(key),
+            None => Ok(false),
+            Some(columns) => Ok(Rc::make_mut(columns)?.remove(key)),
         }
     }
 }

@@ -11,7 +11,7 @@ use crate::errors::ViewError;
 use crate::spelling::{Spelling, byte, index, parts};
 use dp_packet::ErrorCode;
 use dp_state::Path;
-use dp_value::{Bytes, Items, Key, int_of_text};
+use dp_value::{Bytes, Items, Key, Text, int_of_text};
 use std::alloc::Global;
 
 /// The bytes between quotes, behind the opening one.
@@ -34,12 +34,12 @@ fn text(alloc: Global, quote: u8, bytes: &[u8]) -> Result<Vec<u8>, Memory>
 }
 
 /// The key that a text becomes.
-fn key_of(text: Vec<u8>) -> Key
-    ensures { result ≡ key_of_text text.items }
+fn key_of(alloc: Global, text: Vec<u8>) -> Result<Key, Memory>
+    ensures { IfOk result (λ key. key ≡ key_of_text text.items) }
 {
     match int_of_text(text.as_slice()) {
-        Some(n) => Key::Int(n),
-        None => Key::Text(Bytes::of(text)),
+        Some(n) => Ok(Key::Int(n)),
+        None => Ok(Key::Text(Text::of(alloc, text)?)),
     }
 }
 
@@ -49,7 +49,7 @@ fn key(alloc: Global, spelling: Spelling) -> Result<Key, Memory>
 {
     match spelling {
         Spelling::Int(n) => Ok(Key::Int(n)),
-        Spelling::Text(quote, bytes) => Ok(key_of(text(alloc, quote, bytes)?)),
+        Spelling::Text(quote, bytes) => key_of(alloc, text(alloc, quote, bytes)?),
     }
 }
 

@@ -29,7 +29,7 @@ pub(crate) fn key_text(alloc: Global, key: &Key) -> Result<Bytes, Memory>
             let mut buffer = Buffer::new();
             Bytes::from_slice(alloc, buffer.format(*n).as_bytes())
         }
-        Key::Text(bytes) => bytes.try_clone(),
+        Key::Text(bytes) => Bytes::from_slice(alloc, bytes.as_slice()),
     }
 }
 

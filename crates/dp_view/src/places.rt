@@ -41,7 +41,7 @@ fn global_value<'s>(globals: &'s Vars, name: &Bytes) -> Option<&'s Value>
     ensures { option_map (λ v. v.now) result ≡ value_held (slot_of globals.now name.now) }
 {
     match globals.get(name) {
-        Some(Slot::Held(value)) => Some(value.value()),
+        Some(Slot::Held(value)) => Some(value),
         _ => None,
     }
 }
@@ -52,7 +52,7 @@ pub fn slot_value<'s>(globals: &'s Vars, name: &Bytes, slot: &'s Slot) -> Option
         value_through (Some slot.now) (value_held (slot_of globals.now name.now)) }
 {
     match slot {
-        Slot::Held(value) => Some(value.value()),
+        Slot::Held(value) => Some(value),
         Slot::Bound => global_value(globals, name),
     }
 }

@@ -7,7 +7,6 @@ ghost use Rattle.dp_write_commands.specs.inner.Writes.{Puts};
 
 use dp_actions::given_keys;
 use dp_packet::ErrorCode;
-use dp_shared::Shared;
 use dp_state::{Fault, Path, State};
 use dp_value::{Key, Memory, Value};
 use dp_view::ViewError;
@@ -24,7 +23,7 @@ fn put_keyed(
     ensures { Puts (place_or_fault (assigned level path.now.name keys.now false value.now state.old))
         state.old state.new result }
 {
-    let value = Shared::of(value.try_clone()?);
+    let value = value.try_clone()?;
     match state.assign(level, &path.name, keys, false, value) {
         Ok(()) => Ok(()),
         Err(Fault::Fatal(_)) => Err(ViewError::Code(ErrorCode::CannotGetProperty)),

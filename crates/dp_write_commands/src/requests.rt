@@ -12,7 +12,7 @@ use dp_parse::{ParseError, parse_expression};
 use dp_state::{Path, State};
 use dp_token_rules::is_superglobal;
 use dp_tree::Expression;
-use dp_value::{Bytes, Memory, Value, int_of_text};
+use dp_value::{Bytes, Memory, Text, Value, int_of_text};
 use dp_view::{ViewError, named_path};
 use dp_wire::COMMAND_LIMIT;
 use std::alloc::Global;
@@ -113,7 +113,7 @@ pub(crate) fn value_of(alloc: Global, given: Given, bytes: &[u8]) -> Result<Valu
     ensures { IfOk result (λ value. value ≡ value_of_given bytes.now given) }
 {
     match given {
-        Given::Text => Ok(Value::Text(Bytes::from_slice(alloc, bytes)?)),
+        Given::Text => Ok(Value::Text(Text::from_slice(alloc, bytes)?)),
         Given::Other(value) => Ok(value),
     }
 }

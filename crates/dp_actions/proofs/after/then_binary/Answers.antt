@@ -2,7 +2,7 @@ use Rattle.std.proofs.Common.{refl}
 use Rattle.dp_actions.proofs.after.then_binary.Goals as goal
 
 pub returns-in-Ok : goal.returns-in-Ok
-returns-in-Ok c = record { done = rw c.in-Ok.is (rw c.value.ensures at c.operated-answer.ensures) }
+returns-in-Ok c = record { done = rw c.in-Ok.is c.operated-answer.ensures }
 
 pub returns-in-Err : goal.returns-in-Err
 returns-in-Err c = record { done = rw c.in-Err.is (refl, refl) }

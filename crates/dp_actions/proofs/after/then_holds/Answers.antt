@@ -3,7 +3,7 @@ use Rattle.dp_actions.proofs.AtOnceLaws.{gives}
 use Rattle.dp_actions.proofs.after.then_holds.Goals as goal
 
 pub returns-in-Ok : goal.returns-in-Ok
-returns-in-Ok c = λ s. record { done = rw (c.in-Ok.is, c.truthy-holds.ensures, c.value.ensures) gives }
+returns-in-Ok c = λ s. record { done = rw (c.in-Ok.is, c.truthy-holds.ensures) gives }
 
 pub returns-in-Err : goal.returns-in-Err
 returns-in-Err c = λ s. record { done = rw c.in-Err.is (refl, refl) }

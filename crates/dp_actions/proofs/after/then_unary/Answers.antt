@@ -6,7 +6,7 @@ pub returns-in-Ok : goal.returns-in-Ok
 returns-in-Ok c =
     record {
       done = rw c.in-Ok.is (c.value_of-answer.ensures _
-          (gives-answers _ _ (rw c.value.ensures at c.unary.ensures)));
+          (gives-answers _ _ c.unary.ensures));
     }
 
 pub returns-in-Err : goal.returns-in-Err

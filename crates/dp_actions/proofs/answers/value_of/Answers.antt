@@ -5,5 +5,5 @@ use Rattle.dp_actions.proofs.answers.value_of.Goals as goal
 
 pub returns-in-Ok : goal.returns-in-Ok
 returns-in-Ok c =
-    λ table h. rw c.of.ensures (value-ok c.args.state.now table c.in-Ok.value
-    (subst (λ r. Answers r table) c.in-Ok.is h))
+    λ table h. value-ok c.args.state.now table c.in-Ok.value
+    (subst (λ r. Answers r table) c.in-Ok.is h)

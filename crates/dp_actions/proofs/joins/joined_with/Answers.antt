@@ -9,5 +9,5 @@ returns-then-is_beyond c =
 
 pub returns : goal.returns
 returns c =
-    rw c.in_ok-append.ensures (joins c.args.value c.in_ok-text.text c.args.piece.now c.args.state.now
+    rw c.in_ok-append.ensures.ok (joins c.args.value c.in_ok-text.text c.args.piece.now c.args.state.now
     c.in_ok-text.ensures (sym c.is_beyond.ensures ∙ c.if-is_beyond.false))

@@ -2,7 +2,7 @@ use Rattle.std.proofs.Common.{sym, refl, ◌∙◌}
 use Rattle.dp_actions.proofs.operands.present.Goals as goal
 
 pub returns-then-is_missing : goal.returns-then-is_missing
-returns-then-is_missing c = rw (sym (rw c.value.ensures at c.is_missing.ensures) ∙ c.if-is_missing.true) refl
+returns-then-is_missing c = rw (sym c.is_missing.ensures ∙ c.if-is_missing.true) refl
 
 pub returns : goal.returns
-returns c = rw (sym (rw c.value.ensures at c.is_missing.ensures) ∙ c.if-is_missing.false) refl
+returns c = rw (sym c.is_missing.ensures ∙ c.if-is_missing.false) refl

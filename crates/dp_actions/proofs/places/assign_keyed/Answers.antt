@@ -3,10 +3,7 @@ use Rattle.dp_actions.proofs.places.assign_keyed.Goals as goal
 
 pub returns-in_err-write_keyed : goal.returns-in_err-write_keyed
 returns-in_err-write_keyed c =
-    exits _ _ c.from_residual-in_err-write_keyed.ensures.1 (breaks_off _
-    (rw c.in_ok-value.ensures at c.in_err-write_keyed.ensures))
+    exits _ _ c.from_residual-in_err-write_keyed.ensures.1 (breaks_off _ c.in_err-write_keyed.ensures)
 
 pub returns : goal.returns
-returns c =
-    goes_on _ (rw c.in_ok-value.ensures at c.in_ok-write_keyed.ensures)
-    (rw (c.in_ok-copy.ensures, c.in_ok-value.ensures) gives)
+returns c = goes_on _ c.in_ok-write_keyed.ensures (rw c.in_ok-copy.ensures gives)

@@ -6,4 +6,4 @@ use Rattle.dp_actions.proofs.places.is_missing_place.Goals as goal
 pub returns-in-Some : goal.returns-in-Some
 returns-in-Some c =
     let same = ap (λ (o : Option Value). unwrap_or o Null) c.in-Some.ensures in
-    rw (sym same, sym c.value.ensures) (c.missing_of.ensures _ c.is_missing_by.ensures)
+    rw (sym same) (c.missing_of.ensures _ c.is_missing_by.ensures)

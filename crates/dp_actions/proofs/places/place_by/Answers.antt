@@ -15,4 +15,4 @@ returns-then-is_empty c =
 pub returns-in-Some : goal.returns-in-Some
 returns-in-Some c =
     let same = ap (λ (o : Option Value). unwrap_or o Null) c.in-Some.ensures in
-    rw (sym same, sym c.value.ensures) (c.value_of.ensures _ c.entry_by.ensures)
+    rw (sym same) (c.value_of.ensures _ c.entry_by.ensures)

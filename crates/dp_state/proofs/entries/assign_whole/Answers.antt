@@ -14,8 +14,7 @@ use Rattle.dp_state.proofs.entries.assign_whole.Goals as goal
 
 pub returns-clause-ok : goal.returns-clause-ok
 returns-clause-ok c =
-    let weighs : c.weight.result ≡ weight_of (data_of c.args.value) =
-    c.weight.ensures ∙ ap (λ (v : Value). weight_of (data_of v)) c.value-2.ensures in
+    let weighs : c.weight.result ≡ weight_of (data_of c.args.value) = c.weight.ensures in
     let within : weight_of (data_of c.args.value) ≤ weight_limit =
     omega (arith, weighs, c.if-weight-gt-WEIGHT_LIMIT.false) in
     let fits : not (nat_le (weight_of (data_of c.args.value)) weight_limit) ≡ false = grind (arith, nat_tests) in
@@ -23,5 +22,5 @@ returns-clause-ok c =
     (light (data_of c.args.value) (data_in c.args.vars.now c.args.name.now) fits)
     ∙ ap (λ (x : Value). let vs : Variables = with_slot c.args.vars.now c.args.name.now (Held x) in
     let r : Result Variables FatalKind = Ok vs in r)
-    (value_of-data_of c.args.value ∙ sym c.in_ok-settled.ensures)
+    (value_of-data_of c.args.value)
     ∙ ap (λ (x : Variables). let r : Result Variables FatalKind = Ok x in r) (sym c.in_ok-put.ensures.ok)

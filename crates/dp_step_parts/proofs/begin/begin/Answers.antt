@@ -5,12 +5,12 @@ use Rattle.dp_step_parts.proofs.begin.begin.Goals as goal
 
 pub returns-in-Null : goal.returns-in-Null
 returns-in-Null c = λ setting. record {
-  by = λ k. rw (c.in-Null.is, c.give.ensures, c.of.ensures) (begins.begins-Null setting k c.args.state.now);
+  by = λ k. rw (c.in-Null.is, c.give.ensures) (begins.begins-Null setting k c.args.state.now);
 }
 
 pub returns-in-Bool : goal.returns-in-Bool
 returns-in-Bool c = λ setting. record {
-  by = λ k. rw (c.in-Bool.is, c.give-in-Bool.ensures, c.of-in-Bool.ensures)
+  by = λ k. rw (c.in-Bool.is, c.give-in-Bool.ensures)
       (begins.begins-Bool setting k c.args.state.now _);
 }
 
@@ -18,7 +18,7 @@ pub returns-in-Number : goal.returns-in-Number
 returns-in-Number c = λ setting. record {
   by = λ k.
       let fits : SFits w64 c.in-Number.n = search rules in
-      rw (c.in-Number.is, c.give-in-Number.ensures, c.of-in-Number.ensures, to_z-of_z w64 c.in-Number.n fits)
+      rw (c.in-Number.is, c.give-in-Number.ensures, to_z-of_z w64 c.in-Number.n fits)
       (begins.begins-Number setting k c.args.state.now _);
 }
 

@@ -5,4 +5,4 @@ pub returns-then-left : goal.returns-then-left
 returns-then-left c = λ setting k s. rw c.if-left.true refl
 
 pub returns-else-left : goal.returns-else-left
-returns-else-left c = λ setting k s. rw (c.if-left.false, c.of.ensures) refl
+returns-else-left c = λ setting k s. rw c.if-left.false refl

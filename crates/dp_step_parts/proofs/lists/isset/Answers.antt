@@ -6,7 +6,7 @@ use Rattle.dp_step_parts.proofs.lists.isset.Goals as goal
 
 pub returns-in-None : goal.returns-in-None
 unfolding and_then
-returns-in-None c = λ setting k s. rw (nil_from_length _ c.in-None.ensures.cases, c.give.ensures, c.of.ensures) refl
+returns-in-None c = λ setting k s. rw (nil_from_length _ c.in-None.ensures.cases, c.give.ensures) refl
 
 pub returns-in-Some : goal.returns-in-Some
 returns-in-Some c = λ setting k s.

@@ -9,7 +9,7 @@ pub returns-in-None : goal.returns-in-None
 unfolding and_then
 returns-in-None c = λ setting k s.
     let read = rw c.as_slice.ensures at c.in-None.ensures.lookup in
-    rw (drop_of_length-le _ read.3, c.give.ensures, c.of.ensures) refl
+    rw (drop_of_length-le _ read.3, c.give.ensures) refl
 
 pub returns-in-None-key : goal.returns-in-None-key
 returns-in-None-key c = λ setting k s.

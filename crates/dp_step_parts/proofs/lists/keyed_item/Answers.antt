@@ -7,7 +7,7 @@ use Rattle.dp_step_parts.proofs.lists.keyed_item.Goals as goal
 pub returns-in-None : goal.returns-in-None
 returns-in-None c = λ setting k s.
     let read = rw c.as_slice.ensures at c.in-None.ensures.lookup in
-    rw (drop_of_length-le _ read.3, c.give.ensures, c.of.ensures) refl
+    rw (drop_of_length-le _ read.3, c.give.ensures) refl
 
 pub returns-in-Some : goal.returns-in-Some
 returns-in-Some c = λ setting k s.

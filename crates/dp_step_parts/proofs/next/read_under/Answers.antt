@@ -4,7 +4,7 @@ use Rattle.dp_step_parts.proofs.next.read_under.Goals as goal
 
 pub returns-in-Ok : goal.returns-in-Ok
 returns-in-Ok c = λ setting run t h. record {
-  by = λ k. then_done run c.in-Ok.inside t _ (rw (sym c.in-Ok.is) h) ∙ refl;
+  by = λ k. then_done run c.in-Ok.value t _ (rw (sym c.in-Ok.is) h) ∙ refl;
 }
 
 pub returns-in-Err : goal.returns-in-Err

@@ -4,8 +4,8 @@ use Rattle.dp_step_parts.proofs.receive.choose.Goals as goal
 pub returns-then-truthy : goal.returns-then-truthy
 returns-then-truthy c =
     λ setting k s. c.chosen.ensures setting k s
-    ∙ rw (sym (rw c.value.ensures at c.truthy.ensures) ∙ c.if-truthy.true) refl
+    ∙ rw (sym c.truthy.ensures ∙ c.if-truthy.true) refl
 
 pub returns-else-truthy : goal.returns-else-truthy
 returns-else-truthy c =
-    λ setting k s. rw (c.as_ref.ensures, sym (rw c.value.ensures at c.truthy.ensures) ∙ c.if-truthy.false) refl
+    λ setting k s. rw (c.as_ref.ensures, sym c.truthy.ensures ∙ c.if-truthy.false) refl

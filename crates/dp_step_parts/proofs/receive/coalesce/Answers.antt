@@ -3,8 +3,8 @@ use Rattle.dp_step_parts.proofs.receive.coalesce.Goals as goal
 
 pub returns-then-is_missing : goal.returns-then-is_missing
 returns-then-is_missing c =
-    λ setting k s. rw (c.as_ref.ensures, sym (rw c.value.ensures at c.is_missing.ensures) ∙ c.if-is_missing.true) refl
+    λ setting k s. rw (c.as_ref.ensures, sym c.is_missing.ensures ∙ c.if-is_missing.true) refl
 
 pub returns-else-is_missing : goal.returns-else-is_missing
 returns-else-is_missing c =
-    λ setting k s. rw (c.give.ensures, sym (rw c.value.ensures at c.is_missing.ensures) ∙ c.if-is_missing.false) refl
+    λ setting k s. rw (c.give.ensures, sym c.is_missing.ensures ∙ c.if-is_missing.false) refl

@@ -4,4 +4,4 @@ use Rattle.dp_step_parts.proofs.receive.operate_alone.Goals as goal
 pub returns : goal.returns
 returns c =
     λ setting. c.given.ensures setting _ _ (c.value_of-made.ensures _
-    (gives-answers _ _ (rw c.value.ensures at c.unary.ensures)))
+    (gives-answers _ _ c.unary.ensures))

@@ -1,4 +1,4 @@
 use Rattle.dp_step_parts.proofs.receive.put_item.Goals as goal
 
 pub returns : goal.returns
-returns c = λ setting. c.lengthened.ensures setting _ _ (rw c.value.ensures at c.put-made.ensures)
+returns c = λ setting. c.lengthened.ensures setting _ _ c.put-made.ensures

@@ -18,13 +18,13 @@ pub returns-in-Links : goal.returns-in-Links
 returns-in-Links c = λ setting. record { by = λ k. rw c.in-Links.is refl }
 
 pub returns-in-Tested : goal.returns-in-Tested
-returns-in-Tested c = λ setting. record { by = λ k. rw (c.in-Tested.is, c.of.ensures, c.holds.ensures) refl }
+returns-in-Tested c = λ setting. record { by = λ k. rw (c.in-Tested.is, c.holds.ensures) refl }
 
 pub returns-in-Operate : goal.returns-in-Operate
 returns-in-Operate c = λ setting. rw c.in-Operate.is (c.operate.ensures setting)
 
 pub returns-in-Under : goal.returns-in-Under
-returns-in-Under c = λ setting. record { by = λ k. rw (c.in-Under.is, c.of-in-Under.ensures) refl }
+returns-in-Under c = λ setting. record { by = λ k. rw c.in-Under.is refl }
 
 pub returns-in-Entry : goal.returns-in-Entry
 returns-in-Entry c = λ setting. rw c.in-Entry.is (c.read_entry.ensures setting)

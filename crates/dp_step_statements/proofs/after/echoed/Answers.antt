@@ -6,10 +6,10 @@ use Rattle.dp_step_statements.proofs.after.echoed.Goals as goal
 pub returns-in-Ok : goal.returns-in-Ok
 returns-in-Ok c = λ setting. record {
   by = λ k. and_then-assoc _ _ _
-      ∙ then_done _ (tt {0}) c.print_value-done.new.state _ (rw c.value.ensures at c.in-Ok.ensures) ∙ refl;
+      ∙ then_done _ (tt {0}) c.print_value-done.new.state _ c.in-Ok.ensures ∙ refl;
 }
 
 pub returns-in-Err : goal.returns-in-Err
 returns-in-Err c =
     λ setting. leads_as _ _ _ _ (λ k. and_then-assoc _ _ _)
-    (leads_off _ c.print_value-done.new.state c.in-Err.why _ (rw c.value.ensures at c.in-Err.ensures))
+    (leads_off _ c.print_value-done.new.state c.in-Err.why _ c.in-Err.ensures)

@@ -4,10 +4,10 @@ use Rattle.dp_step_statements.proofs.after.exit_with.Goals as goal
 
 pub returns-in-Ok : goal.returns-in-Ok
 returns-in-Ok c = λ setting. record {
-  by = λ k. then_done _ c.in-Ok.given c.exit_value-done.new.state _ (rw c.value.ensures at c.in-Ok.ensures)
+  by = λ k. then_done _ c.in-Ok.given c.exit_value-done.new.state _ c.in-Ok.ensures
       ∙ rw c.signal.ensures refl;
 }
 
 pub returns-in-Err : goal.returns-in-Err
 returns-in-Err c =
-    λ setting. leads_off _ c.exit_value-done.new.state c.in-Err.why _ (rw c.value.ensures at c.in-Err.ensures)
+    λ setting. leads_off _ c.exit_value-done.new.state c.in-Err.why _ c.in-Err.ensures

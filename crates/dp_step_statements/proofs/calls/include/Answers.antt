@@ -6,7 +6,7 @@ use Rattle.dp_step_statements.proofs.calls.include.Goals as goal
 pub returns-in-Ok : goal.returns-in-Ok
 returns-in-Ok c = λ setting same.
     leads_as _ _ _ _ (λ k. included-as setting c.args.bundle.now same c.args.how c.args.name c.args.state.now
-    c.in-Ok.file (sym (rw c.value.ensures at c.in-Ok.ensures)) k)
+    c.in-Ok.file (sym c.in-Ok.ensures) k)
     (c.included.ensures setting)
 
 pub returns-in-Err : goal.returns-in-Err

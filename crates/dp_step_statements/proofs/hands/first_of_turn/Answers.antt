@@ -20,13 +20,12 @@ returns-in-Bind c = λ setting. rw c.in-Bind.is (c.moved.ensures setting _ _ (c.
 pub returns-in-Left : goal.returns-in-Left
 unfolding and_then
 returns-in-Left c =
-    λ setting. rw c.in-Left.is (goes_as setting _ _ _ (λ k. rw c.of.ensures at (c.leave.ensures setting k)))
+    λ setting. rw c.in-Left.is (goes_as setting _ _ _ (λ k. c.leave.ensures setting k))
 
 pub returns-in-LeftFile : goal.returns-in-LeftFile
 unfolding and_then
 returns-in-LeftFile c =
-    λ setting. rw c.in-LeftFile.is (goes_as setting _ _ _ (λ k. rw c.of-in-LeftFile.ensures at
-    (c.leave-in-LeftFile.ensures setting k)))
+    λ setting. rw c.in-LeftFile.is (goes_as setting _ _ _ (λ k. c.leave-in-LeftFile.ensures setting k))
 
 pub returns-in-Over : goal.returns-in-Over
 returns-in-Over c = λ setting. record { by = λ k. rw c.in-Over.is refl }

@@ -8,7 +8,7 @@ use Rattle.dp_step_statements.proofs.statements.return_value.Goals as goal
 
 pub returns-in-None : goal.returns-in-None
 unfolding and_then
-returns-in-None c = λ setting k s. rw (c.in-None.is, c.signal.ensures, c.of.ensures) refl
+returns-in-None c = λ setting k s. rw (c.in-None.is, c.signal.ensures) refl
 
 pub returns-in-Some : goal.returns-in-Some
 unfolding and_then

@@ -15,17 +15,16 @@ use Rattle.dp_actions.proofs.Tails.{kept-none, kept-some, present-none, present-
 use Rattle.dp_actions.proofs.observer.Observer.+observe.Goals as goal
 
 pub expression-returns-in-Null : goal.expression-returns-in-Null
-expression-returns-in-Null t c = λ setting. rw (c.in-Null.is, run-Null, c.of.ensures) gives
+expression-returns-in-Null t c = λ setting. rw (c.in-Null.is, run-Null) gives
 
 pub expression-returns-in-Bool : goal.expression-returns-in-Bool
-expression-returns-in-Bool t c = λ setting. rw (c.in-Bool.is, run-Bool, c.of-in-Bool.ensures) gives
+expression-returns-in-Bool t c = λ setting. rw (c.in-Bool.is, run-Bool) gives
 
 pub expression-returns-in-Number : goal.expression-returns-in-Number
 expression-returns-in-Number t c =
     λ setting. let fits : SFits w64 c.in-Number.n = search rules in rw (
       c.in-Number.is,
       run-Number,
-      c.of-in-Number.ensures,
       to_z-of_z w64 c.in-Number.n fits,
     ) gives
 
@@ -140,28 +139,27 @@ pub base-returns-in-Found : goal.base-returns-in-Found
 base-returns-in-Found t c = λ setting. rw c.in-Found.is (c.found.ensures setting)
 
 pub under-loop-e-init : goal.under-loop-e-init
-under-loop-e-init t c = λ setting. rw c.of-inside.ensures
+under-loop-e-init t c = λ setting. refl
 
-pub under-returns-in_err-inside : goal.under-returns-in_err-inside
-under-returns-in_err-inside t c =
+pub under-returns-in_err-value : goal.under-returns-in_err-value
+under-returns-in_err-value t c =
     λ setting. exits _ _ c.from_residual.ensures.1 (rw (
       c.loop-e.invariant setting,
       front _ c.loop-e.e-index c.e-item.result c.loop-e-test.true c.e-item.is,
-    ) (joined_off _ _ _ (then_on (c.expression-at.ensures setting) c.in_err-inside.ensures)))
+    ) (joined_off _ _ _ (then_on (c.expression-at.ensures setting) c.in_err-value.ensures)))
 
 pub under-loop-e-preserved : goal.under-loop-e-preserved
 under-loop-e-preserved t c =
     λ setting. rw (
       c.loop-e.invariant setting,
       front _ c.loop-e.e-index c.e-item.result c.loop-e-test.true c.e-item.is,
-    ) (joined_done _ _ _ (then_on (c.expression-at.ensures setting) c.in_ok-inside.ensures))
+    ) (joined_done _ _ _ (then_on (c.expression-at.ensures setting) c.in_ok-value.ensures))
 
 pub under-returns : goal.under-returns
 under-returns t c =
     λ setting. rw (
       c.loop-e.invariant setting,
       drop_of_length-le c.args.indices.now c.loop-e-test.false,
-      c.in_ok-into_shared.ensures,
     ) gives
 
 pub isset-returns-in_err-missing : goal.isset-returns-in_err-missing
@@ -179,7 +177,7 @@ isset-returns-then-missing t c =
       front _ c.loop-place.place-index c.place-item.result c.loop-place-test.true c.place-item.is,
     ) (place_on (place_run c.place-item.result) (map place_run
     (drop (c.loop-place.place-index + 1) c.args.places.now)) setting (c.in_ok-missing.ensures setting)
-    (rw (c.if-missing.true, c.of.ensures) gives))
+    (rw c.if-missing.true gives))
 
 pub isset-loop-place-preserved : goal.isset-loop-place-preserved
 isset-loop-place-preserved t c =
@@ -195,7 +193,6 @@ isset-returns t c =
     λ setting. rw (
       c.loop-place.invariant setting,
       drop_of_length-le c.args.places.now c.loop-place-test.false,
-      c.of-2.ensures,
     ) gives
 
 pub missing_at-values-requires : goal.missing_at-values-requires
@@ -235,7 +232,7 @@ links-returns t c =
 
 pub link-returns-then-holds : goal.link-returns-then-holds
 link-returns-then-holds t c =
-    λ setting. rw (run-link, c.in-Or.is, sym c.holds.ensures ∙ c.if-holds.true, c.of.ensures) gives
+    λ setting. rw (run-link, c.in-Or.is, sym c.holds.ensures ∙ c.if-holds.true) gives
 
 pub link-returns-else-holds : goal.link-returns-else-holds
 link-returns-else-holds t c =
@@ -248,7 +245,6 @@ link-returns-then-not-holds t c =
       run-link,
       c.in-And.is,
       sym c.holds-in-And.ensures ∙ c.if-not-holds.true,
-      c.of-then-not-holds.ensures,
     ) gives
 
 pub link-returns-else-not-holds : goal.link-returns-else-not-holds
@@ -313,7 +309,6 @@ array-returns t c =
     λ setting. rw (
       c.loop-item.invariant setting,
       drop_of_length-le c.args.items.now c.loop-item-test.false,
-      c.of.ensures,
     ) gives
 
 pub item-returns-in-None : goal.item-returns-in-None
@@ -328,7 +323,7 @@ item-returns-in-Some t c =
 pub keyed-returns-in-Ok : goal.keyed-returns-in-Ok
 keyed-returns-in-Ok t c =
     λ setting. goes_on _ (rw c.in-Ok.is at (c.expression.ensures setting))
-    (then_on (c.expression-in-Ok.ensures setting) (rw c.value.ensures at c.then_put-answer.ensures))
+    (then_on (c.expression-in-Ok.ensures setting) c.then_put-answer.ensures)
 
 pub keyed-returns-in-Err : goal.keyed-returns-in-Err
 keyed-returns-in-Err t c = λ setting. breaks_off _ (rw c.in-Err.is at (c.expression.ensures setting))

@@ -77,7 +77,7 @@ invariant-values-loop-e l = (setting : Setting)
 abbrev pub invariant-under-loop-e : goal.invariant-under-loop-e
 invariant-under-loop-e l = (setting : Setting)
     → indices_run (entries_by l.reading) (map expression_run l.indices) l.fn.base setting l.self.state.now
-    ≡ indices_run (entries_by l.reading) (map expression_run (drop l.e-index l.indices)) l.inside setting
+    ≡ indices_run (entries_by l.reading) (map expression_run (drop l.e-index l.indices)) l.value setting
     l.self.state.now
 
 abbrev pub invariant-isset-loop-place : goal.invariant-isset-loop-place

@@ -26,17 +26,16 @@ use Rattle.dp_actions.proofs.Tails.{kept-none, kept-some, present-none, present-
 use Rattle.dp_meaning.proofs.evaluator.Evaluator.+evaluate.Goals as goal
 
 pub expression-returns-in-Null : goal.expression-returns-in-Null
-expression-returns-in-Null g t c = rw (c.in-Null.is, run-Null, c.of.ensures) gives
+expression-returns-in-Null g t c = rw (c.in-Null.is, run-Null) gives
 
 pub expression-returns-in-Bool : goal.expression-returns-in-Bool
-expression-returns-in-Bool g t c = rw (c.in-Bool.is, run-Bool, c.of-in-Bool.ensures) gives
+expression-returns-in-Bool g t c = rw (c.in-Bool.is, run-Bool) gives
 
 pub expression-returns-in-Number : goal.expression-returns-in-Number
 expression-returns-in-Number g t c =
     let fits : SFits w64 c.in-Number.n = search rules in rw (
       c.in-Number.is,
       run-Number,
-      c.of-in-Number.ensures,
       to_z-of_z w64 c.in-Number.n fits,
     ) gives
 
@@ -132,7 +131,7 @@ pub inclusion-returns-in_err-value : goal.inclusion-returns-in_err-value
 inclusion-returns-in_err-value g t c = exits _ _ c.from_residual.ensures.1 (breaks_off _ c.in_err-value.ensures)
 
 pub inclusion-returns : goal.inclusion-returns
-inclusion-returns g t c = goes_on _ c.in_ok-value.ensures (rw c.value.ensures at c.include-answer.ensures)
+inclusion-returns g t c = goes_on _ c.in_ok-value.ensures c.include-answer.ensures
 
 pub index-returns-in_err-value : goal.index-returns-in_err-value
 index-returns-in_err-value g t c = exits _ _ c.from_residual.ensures.1 (breaks_off _ c.in_err-value.ensures)
@@ -141,22 +140,22 @@ pub index-returns : goal.index-returns
 index-returns g t c = goes_on _ c.in_ok-value.ensures c.under.ensures
 
 pub under-loop-e-init : goal.under-loop-e-init
-under-loop-e-init g t c = λ x u e. rw c.of-inside.ensures at e
+under-loop-e-init g t c = λ x u e. e
 
-pub under-returns-in_err-inside : goal.under-returns-in_err-inside
-under-returns-in_err-inside g t c =
+pub under-returns-in_err-value : goal.under-returns-in_err-value
+under-returns-in_err-value g t c =
     exits _ _ c.from_residual.ensures.1 (c.loop-e.invariant _ _
     (rw (front _ c.loop-e.e-index c.e-item.result c.loop-e-test.true c.e-item.is)
-    (joined_off _ _ _ (then_on c.expression-at.ensures c.in_err-inside.ensures))))
+    (joined_off _ _ _ (then_on c.expression-at.ensures c.in_err-value.ensures))))
 
 pub under-loop-e-preserved : goal.under-loop-e-preserved
 under-loop-e-preserved g t c =
     λ x u e. c.loop-e.invariant x u (rw (front _ c.loop-e.e-index c.e-item.result c.loop-e-test.true c.e-item.is)
-    (joined_on _ _ _ (then_on c.expression-at.ensures c.in_ok-inside.ensures) e))
+    (joined_on _ _ _ (then_on c.expression-at.ensures c.in_ok-value.ensures) e))
 
 pub under-returns : goal.under-returns
 under-returns g t c =
-    c.loop-e.invariant _ _ (rw (drop_of_length-le c.args.indices.now c.loop-e-test.false, c.in_ok-into_shared.ensures)
+    c.loop-e.invariant _ _ (rw (drop_of_length-le c.args.indices.now c.loop-e-test.false)
     gives)
 
 pub base-returns-in-Plain : goal.base-returns-in-Plain
@@ -179,7 +178,7 @@ array-loop-item-preserved g t c =
 
 pub array-returns : goal.array-returns
 array-returns g t c =
-    c.loop-item.invariant _ _ (rw (drop_of_length-le c.args.items.now c.loop-item-test.false, c.of.ensures) gives)
+    c.loop-item.invariant _ _ (rw (drop_of_length-le c.args.items.now c.loop-item-test.false) gives)
 
 pub item-returns-in-None : goal.item-returns-in-None
 item-returns-in-None g t c =
@@ -191,7 +190,7 @@ item-returns-in-Some g t c = rw (run-item-Some c.args.item.now _ c.in-Some.is) c
 pub keyed-returns-in-Ok : goal.keyed-returns-in-Ok
 keyed-returns-in-Ok g t c =
     goes_on _ (rw c.in-Ok.is at c.expression.ensures) (then_on c.expression-in-Ok.ensures
-    (rw c.value.ensures at c.then_put-answer.ensures))
+    c.then_put-answer.ensures)
 
 pub keyed-returns-in-Err : goal.keyed-returns-in-Err
 keyed-returns-in-Err g t c = breaks_off _ (rw c.in-Err.is at c.expression.ensures)
@@ -218,7 +217,7 @@ pub links-returns : goal.links-returns
 links-returns g t c = c.loop-link.invariant _ _ (rw (drop_of_length-le c.args.links.now c.loop-link-test.false) gives)
 
 pub link-returns-then-holds : goal.link-returns-then-holds
-link-returns-then-holds g t c = rw (run-link, c.in-Or.is, sym c.holds.ensures ∙ c.if-holds.true, c.of.ensures) gives
+link-returns-then-holds g t c = rw (run-link, c.in-Or.is, sym c.holds.ensures ∙ c.if-holds.true) gives
 
 pub link-returns-else-holds : goal.link-returns-else-holds
 link-returns-else-holds g t c =
@@ -227,7 +226,7 @@ link-returns-else-holds g t c =
 
 pub link-returns-then-not-holds : goal.link-returns-then-not-holds
 link-returns-then-not-holds g t c =
-    rw (run-link, c.in-And.is, sym c.holds-in-And.ensures ∙ c.if-not-holds.true, c.of-then-not-holds.ensures) gives
+    rw (run-link, c.in-And.is, sym c.holds-in-And.ensures ∙ c.if-not-holds.true) gives
 
 pub link-returns-else-not-holds : goal.link-returns-else-not-holds
 link-returns-else-not-holds g t c =
@@ -339,7 +338,7 @@ isset-returns-then-missing g t c =
     c.place-item.is)
     (place_on (place_run c.place-item.result) (map place_run
     (drop (c.loop-place.place-index + 1) c.args.places.now)) (goes_by c.args.self.now) _ c.in_ok-missing.ensures
-    (rw (c.if-missing.true, c.of.ensures) gives)))
+    (rw c.if-missing.true gives)))
 
 pub isset-loop-place-preserved : goal.isset-loop-place-preserved
 isset-loop-place-preserved g t c =
@@ -351,7 +350,7 @@ isset-loop-place-preserved g t c =
 
 pub isset-returns : goal.isset-returns
 isset-returns g t c =
-    c.loop-place.invariant _ _ (rw (drop_of_length-le c.args.places.now c.loop-place-test.false, c.of-2.ensures) gives)
+    c.loop-place.invariant _ _ (rw (drop_of_length-le c.args.places.now c.loop-place-test.false) gives)
 
 pub unset-returns-in_err-indices : goal.unset-returns-in_err-indices
 unset-returns-in_err-indices g t c =
@@ -482,7 +481,7 @@ included-returns g t c =
     rw (file-is c.args.self.now.bundle.now c.args.self.now.bound c.args.self.now.depth c.args.file c.args.state.now)
     (goes_on _
     (at_once c.in_ok-enter_file.ensures) (goes_on _ (rw c.statements_of.ensures at c.in_ok-signal.ensures) (rw
-    (c.leave.ensures, c.returned.ensures, c.of.ensures) gives)))
+    (c.leave.ensures, c.returned.ensures) gives)))
 
 pub body-returns-in_err-statement : goal.body-returns-in_err-statement
 body-returns-in_err-statement g t c =
@@ -711,7 +710,7 @@ arms-returns-in-Some g t c =
     (rw c.as_ref.ensures at c.statement-in-Some.ensures))
 
 pub return_value-returns-in-None : goal.return_value-returns-in-None
-return_value-returns-in-None g t c = rw (c.in-None.is, c.of.ensures) gives
+return_value-returns-in-None g t c = rw c.in-None.is gives
 
 pub return_value-returns-in-Some : goal.return_value-returns-in-Some
 return_value-returns-in-Some g t c = rw c.in-Some.is (then_on c.expression.ensures (c.then_return.ensures _))
@@ -836,7 +835,7 @@ do_turns-returns g t c =
     let n : c.args.left - c.loop-turn._turn ≡ 0 = omega arith in c.loop-turn.invariant _ _ (rw n ends)
 
 pub foreach-returns : goal.foreach-returns
-foreach-returns g t c = goes_on _ c.in_ok-subject.ensures (rw c.value.ensures at c.each-answer.ensures)
+foreach-returns g t c = goes_on _ c.in_ok-subject.ensures c.each-answer.ensures
 
 pub each-loop-at-init : goal.each-loop-at-init
 each-loop-at-init g t c = λ x u e. rw c.in-Array.is e

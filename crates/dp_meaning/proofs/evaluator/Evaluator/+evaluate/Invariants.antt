@@ -266,7 +266,7 @@ invariant-each-loop-at g l = (x : Result Signal Halt) (t : State)
 abbrev pub invariant-under-loop-e : goal.invariant-under-loop-e
 invariant-under-loop-e g l = (x : Result Value Halt) (t : State)
     → Evaluates (g.O.Outside.rules l.self.outside.now) (indices_run (entries_by l.reading)
-    (map expression_run (drop l.e-index l.indices)) l.inside
+    (map expression_run (drop l.e-index l.indices)) l.value
     (goes_by l.self) l.state) x t
     → Evaluates (g.O.Outside.rules l.self.outside.now) (indices_run (entries_by l.reading)
     (map expression_run l.indices) l.fn.base (goes_by l.self) l.fn.state) x t

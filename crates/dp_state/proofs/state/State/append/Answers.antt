@@ -1,6 +1,5 @@
-use Rattle.std.proofs.Common.{ℕ, [], false, sym, ap, ◌∙◌}
-use Rattle.dp_shared.specs.Pieces.{with_piece}
-use Rattle.dp_value.specs.declared.value.Value.TheVariants.{Null}
+use Rattle.std.proofs.Common.{ℕ, ◌++◌, [], false, sym, ap, ◌∙◌}
+use Rattle.dp_value.specs.declared.value.Value.TheVariants.{Null, Text}
 use Rattle.dp_state.specs.Places.{assigned}
 use Rattle.dp_state.specs.inner.Parts.{assigned_in}
 use Rattle.dp_state.specs.States.{own_variables}
@@ -17,11 +16,11 @@ returns-clause-ok c =
     on_ok c.home-at.result c.args.self.now c.take_own-vars.new.self c.exchange_own.new.self c.take_own-vars.result
     c.append_in-done.new.vars c.take_own-vars.ensures.taken c.take_own-vars.ensures.left
     c.exchange_own.ensures.given
-    (assigned 0 c.args.name.now [] false (with_piece c.args.text c.args.piece.now) c.args.self.now)
-    (assigned_in c.args.name.now [] false (with_piece c.args.text c.args.piece.now))
-    (assigned-home c.args.self.now 0 c.args.name.now [] false (with_piece c.args.text c.args.piece.now)
+    (assigned 0 c.args.name.now [] false (Text (c.args.text ++ c.args.piece.now)) c.args.self.now)
+    (assigned_in c.args.name.now [] false (Text (c.args.text ++ c.args.piece.now)))
+    (assigned-home c.args.self.now 0 c.args.name.now [] false (Text (c.args.text ++ c.args.piece.now))
     ∙ ap (λ (at : ℕ). with_result at c.args.self.now (assigned_in c.args.name.now [] false
-    (with_piece c.args.text c.args.piece.now) (own_variables c.args.self.now at))) (sym c.home-at.ensures.home))
+    (Text (c.args.text ++ c.args.piece.now)) (own_variables c.args.self.now at))) (sym c.home-at.ensures.home))
     c.append_in-done.result c.append_in-done.ensures.ok
 
 pub returns-clause-refused : goal.returns-clause-refused
@@ -29,11 +28,11 @@ returns-clause-refused c =
     on_refused c.home-at.result c.args.self.now c.take_own-vars.new.self c.exchange_own.new.self c.take_own-vars.result
     c.append_in-done.new.vars c.take_own-vars.ensures.taken c.take_own-vars.ensures.left
     c.exchange_own.ensures.given
-    (assigned 0 c.args.name.now [] false (with_piece c.args.text c.args.piece.now) c.args.self.now)
-    (assigned_in c.args.name.now [] false (with_piece c.args.text c.args.piece.now))
-    (assigned-home c.args.self.now 0 c.args.name.now [] false (with_piece c.args.text c.args.piece.now)
+    (assigned 0 c.args.name.now [] false (Text (c.args.text ++ c.args.piece.now)) c.args.self.now)
+    (assigned_in c.args.name.now [] false (Text (c.args.text ++ c.args.piece.now)))
+    (assigned-home c.args.self.now 0 c.args.name.now [] false (Text (c.args.text ++ c.args.piece.now))
     ∙ ap (λ (at : ℕ). with_result at c.args.self.now (assigned_in c.args.name.now [] false
-    (with_piece c.args.text c.args.piece.now) (own_variables c.args.self.now at))) (sym c.home-at.ensures.home))
+    (Text (c.args.text ++ c.args.piece.now)) (own_variables c.args.self.now at))) (sym c.home-at.ensures.home))
     c.append_in-done.result c.append_in-done.ensures.refused
 
 pub returns-clause-err : goal.returns-clause-err

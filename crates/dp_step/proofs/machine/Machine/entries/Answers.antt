@@ -12,4 +12,4 @@ returns c =
     IfOk-weaker c.gave.result _ _ (λ end leaps. leaps_as m _ c.gave.new.self _ _ end refl refl leaps)
     (c.gave.ensures (λ setting s. each_run loop.line loop.binding.now (drop c.args.at (entries c.args.subject))
     (statement_run loop.body.now setting) s) m.state
-    (record { by = rw (c.whole.ensures, c.as_ref-body.ensures, c.value.ensures) at c.entries-done.ensures }))
+    (record { by = rw (c.whole.ensures, c.as_ref-body.ensures) at c.entries-done.ensures }))
