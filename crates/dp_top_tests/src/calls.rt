@@ -32,8 +32,8 @@ struct Streams {
     err: ByteSink,
 }
 
-/// New streams.
-fn streams(alloc: Global) -> Result<Streams, Memory> {
+/// Streams of nothing yet.
+fn new_streams(alloc: Global) -> Result<Streams, Memory> {
     Ok(Streams {
         input: ByteSource::new(Vec::new(alloc), Vec::new(alloc), Vec::new(alloc))?,
         out: ByteSink::new(alloc, ROOM, Vec::new(alloc))?,
@@ -92,7 +92,7 @@ pub(crate) fn call<
     R: Threads + Wait + Sync + Send + Sockets<Listener = TcpListener, Stream = TcpStream>,
 >(rt: &R, alloc: Global, words: &[&str], shelf: &mut MapShelf) -> Result<Ended, Memory> {
     let words = texts(alloc, words)?;
-    let streams = streams(alloc)?;
+    let streams = new_streams(alloc)?;
     Ok(call_over(rt, alloc, words.as_slice(), shelf, streams))
 }
 
