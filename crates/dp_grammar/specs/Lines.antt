@@ -9,6 +9,11 @@ use Rattle.dp_grammar.specs.Texts.{Text}
 abbrev pub lines_of : Text → List Text
 lines_of text = slice_split (λ byte. byte == 10) text
 
+-- lines with a byte more at the front of the first
+abbrev pub begun : ℕ → List Text → List Text
+begun byte [] = (byte ∷ []) ∷ []
+begun byte (line ∷ lines) = (byte ∷ line) ∷ lines
+
 -- empty lines, and those that begin with `#`, do nothing
 abbrev pub is_idle : Text → Bool
 is_idle [] = true

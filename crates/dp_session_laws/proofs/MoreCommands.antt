@@ -8,7 +8,7 @@ use Rattle.dp_wire.specs.Frames.{packet_frame}
 use Rattle.dp_engine.specs.Answers.{answer}
 use Rattle.dp_engine.specs.Responses.{init_text}
 use Rattle.dp_engine.specs.Served.{alone, answers}
-use Rattle.dp_session_laws.specs.AllOutput.{Begins}
+use Rattle.dp_conversation.specs.Growth.{Begins}
 use Rattle.dp_engine.specs.Session.{opening}
 
 pub alone_grows : (bundle : Bundle) (bound : ℕ) (key bytes more : List ℕ)

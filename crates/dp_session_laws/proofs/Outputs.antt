@@ -42,7 +42,7 @@ use Rattle.dp_meaning.proofs.AlwaysExpressions.{Keeps-expression}
 use Rattle.dp_meaning.proofs.AlwaysPrograms.{Always-program, Keeps-setting}
 use Rattle.dp_meaning.proofs.Steady.{IsSteady, steady-program}
 use Rattle.dp_meaning.proofs.WrittenMoments.{moments-written}
-use Rattle.dp_session_laws.specs.AllOutput.{Begins}
+use Rattle.dp_conversation.specs.Growth.{Begins}
 
 -- ---- steps
 

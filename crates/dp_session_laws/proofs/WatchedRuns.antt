@@ -43,7 +43,8 @@ use Rattle.dp_engine.specs.declared.states.Phase.TheVariants.{Starting, Break, S
 use Rattle.dp_engine.specs.Answers.{answer, at_end, at_stop, continued, gone_on, kept_if, moved, performed, session_done, to_program, turn, turn_by_command, turn_of, with_write}
 use Rattle.dp_engine.specs.Refusals.{of_command, refusal_of_line}
 use Rattle.dp_engine.specs.Served.{answers_to, ending_after, ending_with, own_with, rest_after, writes_with}
-use Rattle.dp_session_laws.specs.AllOutput.{Begins, IsRunWith, NeverRedirects, UnlessEnded, all_output_with, writing}
+use Rattle.dp_conversation.specs.Growth.{Begins}
+use Rattle.dp_session_laws.specs.AllOutput.{IsRunWith, NeverRedirects, UnlessEnded, all_output_with, writing}
 use Rattle.dp_engine.specs.Session.{State, breaks_of, depth_at, opening, outcome_of, output_by, output_so_far, program_by, program_of, stop_of, trace_of, unwritten, whole_output, written_between}
 use Rattle.dp_session_laws.specs.Shown.{IsInRun, IsInRunAt}
 use Rattle.dp_engine.specs.States.{allows}

@@ -1,10 +1,11 @@
 -- All that a program writes in a session, and what holds of it in every session.
-use Rattle.std.specs.Prelude.{◌≡◌, ◌≢◌, ℕ, ◌<◌, List, [], ◌∷◌, ◌++◌, Option, Some, None, slice_index}
+use Rattle.std.specs.Prelude.{◌≡◌, ◌≢◌, ℕ, ◌<◌, List, [], ◌∷◌, Option, Some, None, slice_index}
 use Rattle.dp_tree.specs.declared.bundle.Bundle.{Bundle}
 use Rattle.dp_command.specs.declared.command.StreamMode.TheVariants.{Redirect}
 use Rattle.dp_meaning.specs.declared.writes.NumberedWrite.{NumberedWrite}
 use Rattle.dp_meaning.specs.Trace.{outcome, output}
 use Rattle.dp_conversation.specs.Folds.{Reply, replies}
+use Rattle.dp_conversation.specs.Growth.{Begins}
 use Rattle.dp_state.specs.declared.moments.Outcome.{Outcome}
 use Rattle.dp_wire.specs.Frames.{commands_in}
 use Rattle.dp_engine.specs.declared.session.SessionEnd.{SessionEnd}
@@ -50,10 +51,6 @@ NeverRedirects state (line ∷ lines) =
 -- each is a byte
 abbrev pub AreBytes : List ℕ → Type 0
 AreBytes bytes = (place : ℕ) → slice_index bytes place < 256
-
--- one list of bytes begins another
-abbrev pub Begins : List ℕ → List ℕ → Type 0
-Begins front bytes = (rest : List ℕ) × (bytes ≡ front ++ rest)
 
 -- With these writes the program writes this and ends so; one that was killed has written a front of
 -- what it writes.

@@ -12,11 +12,13 @@ mod moments;
 mod places;
 mod start;
 mod state;
+mod statuses;
 mod steps;
 mod vars;
 
 pub use declarations::Declared;
 pub use moments::{FatalKind, Moment, MomentKind, Outcome, Path};
 pub use state::{Fault, Frame, FrameKind, State};
+pub use statuses::{KILLED_STATUS, UNFINISHED_STATUS, status};
 pub use steps::{FRAME_LIMIT, OUTPUT_LIMIT};
 pub use vars::{Slot, Vars};

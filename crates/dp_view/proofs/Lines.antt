@@ -4,7 +4,8 @@ use Rattle.std.specs.List.{flat_map}
 use Rattle.std.specs.Prelude.{unwrap_or}
 use Rattle.std.proofs.lemmas.Bool.{eq-eqb, ne_eqb}
 use Rattle.std.proofs.lemmas.List.{drop_all}
-use Rattle.dp_view.specs.Source.{begun, lines_between, lines_of, source_lines}
+use Rattle.dp_grammar.specs.Lines.{begun}
+use Rattle.dp_view.specs.Source.{lines_between, lines_of, source_lines}
 use Rattle.dp_view.specs.inner.Lines.{lines_length}
 use Rattle.dp_grammar.proofs.Runs.{one_more}
 

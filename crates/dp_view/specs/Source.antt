@@ -1,11 +1,7 @@
 -- The lines of a file's text: DBGp 1.0, "source". What a line is, is this engine's own.
 use Rattle.std.specs.Prelude.{ℕ, ◌-◌, ◌==◌, if◌then◌else◌, List, [], ◌∷◌, drop, take, Option, Some, None, unwrap_or}
 use Rattle.std.specs.List.{flat_map}
-
--- lines with a byte more at the front of the first
-abbrev pub begun : ℕ → List (List ℕ) → List (List ℕ)
-begun b [] = (b ∷ []) ∷ []
-begun b (line ∷ lines) = (b ∷ line) ∷ lines
+use Rattle.dp_grammar.specs.Lines.{begun}
 
 -- Each line goes up to its line feed, which is a part of it; what follows the last line feed is a
 -- line too.
