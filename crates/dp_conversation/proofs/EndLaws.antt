@@ -13,11 +13,11 @@ use Rattle.dp_conversation.specs.Growth.{served}
 use Rattle.dp_conversation.specs.Service.{ConversationEndsBy, IsConversed, IsReadUpTo, piece_limit}
 use Rattle.dp_conversation.proofs.ServiceLaws.{followed_over, replies_append, taken_all}
 
-abbrev NoMore : List ℕ → Type 0
+abbrev pub NoMore : List ℕ → Type 0
 NoMore held = (text more : List ℕ) → IsCommand text → held ≡ command_frame text ++ more → ⊥
 
 -- no whole command begins what is left
-no_more_partial : (held : List ℕ) → IsPartialCommand held → NoMore held
+pub no_more_partial : (held : List ℕ) → IsPartialCommand held → NoMore held
 no_more_partial held p text more is e =
     let joined : command_frame text ++ (more ++ p.more) ≡ command_frame p.text =
     sym (append_assoc (command_frame text) more p.more) ∙ ap (λ l. l ++ p.more) (sym e) ∙ p.whole in
@@ -26,7 +26,7 @@ no_more_partial held p text more is e =
       no_bytes [] more e = e
       no_bytes (b ∷ bs) more e = cc
 
-no_more_refused : (held : List ℕ) → BeginsNoCommand held → NoMore held
+pub no_more_refused : (held : List ℕ) → BeginsNoCommand held → NoMore held
 no_more_refused held refused text more is e = refused text more [] is (append-nil held ∙ e)
 
 -- a command has ended the session, or no whole command is left

@@ -4,3 +4,4 @@ pub mod CutLaws
 pub mod EndLaws
 pub mod GrowthLaws
 pub mod NextAnswerLaws
+pub mod AnswerAllLaws

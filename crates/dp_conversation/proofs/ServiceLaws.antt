@@ -15,11 +15,11 @@ use Rattle.dp_conversation.specs.Folds.{Reply, nothing_sent, unless_ended, follo
 -- ---- replies
 
 module _ {S E : Type 0} where
-  abbrev reply : List (List ℕ) → List ℕ → S → Option E → Reply S E
+  abbrev pub reply : List (List ℕ) → List ℕ → S → Option E → Reply S E
   reply packets program state ended = record { packets = packets; program = program; state = state; ended = ended }
 
   -- what follows the second of two replies follows both
-  follows : (ps : List (List ℕ)) (bs : List ℕ) (s : S) (ended : Option E) (b : Reply S E) (rest : S → Reply S E)
+  pub follows : (ps : List (List ℕ)) (bs : List ℕ) (s : S) (ended : Option E) (b : Reply S E) (rest : S → Reply S E)
       → followed (reply ps bs s ended) (followed b (rest b.state)) ≡ followed (followed (reply ps bs s ended) b)
       (rest (followed (reply ps bs s ended) b).state)
   follows ps bs s (Some e) b rest = refl

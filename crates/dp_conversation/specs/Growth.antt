@@ -4,6 +4,10 @@ use Rattle.std.specs.Prelude.{◌≡◌, ℕ, List, ◌++◌, Some}
 use Rattle.dp_wire.specs.Frames.{commands_in}
 use Rattle.dp_conversation.specs.Folds.{Reply, replies}
 
+-- one list of bytes begins another
+abbrev pub Begins : List ℕ → List ℕ → Type 0
+Begins front bytes = (rest : List ℕ) × (bytes ≡ front ++ rest)
+
 -- what these bytes lead to, from this state on
 abbrev pub served : {S E : Type 0} → (S → List ℕ → Reply S E) → S → List ℕ → Reply S E
 served step start bytes = replies step start (commands_in bytes)

@@ -1,9 +1,13 @@
 //! A session that is fed its commands in whatever pieces they come.
-ghost use Rattle.std.specs.Prelude.{◌≡◌, ◌++◌, [], IfOk, OnErr, OnOk, true};
+ghost use Rattle.std.specs.Prelude.{◌≡◌, ◌++◌, [], None, IfOk, OnErr, OnOk, true};
+ghost use Rattle.std.specs.List.{AllByRecursion};
+ghost use Rattle.dp_wire.specs.Frames.{IsPacketText, rest_of};
+ghost use Rattle.dp_conversation.specs.Folds.{reply_of};
+ghost use Rattle.dp_conversation.specs.Growth.{served};
 ghost use Rattle.dp_conversation.specs.NextAnswer.{AreTextsNext, ComesNext, ComesUnfailed};
 
 use crate::responder::{Answer, Responder};
-use dp_value::Memory;
+use dp_value::{Bytes, Items, Memory};
 use dp_wire::Commands;
 use std::alloc::Global;
 
@@ -64,4 +68,55 @@ impl<A: Responder> Conversation<A> {
         self.held.drop_front();
         Ok(Next::Answered(answer))
     }
+
+    /// Answers each whole command that is held, up to one that ends the session, and gives what they lead to together.
+    ///
+    /// Once memory ran out nothing is said of the session: commands may have been answered whose answers are lost.
+    pub fn answer_all(&mut self, alloc: Global) -> Result<Answer<A::End>, Memory>
+        ensures answers { IfOk result (λ answer. reply_of answer self.new.session
+            ≡ served A.step self.old.session self.old.held.held) }
+        ensures are_texts { IfOk result (λ answer. AllByRecursion IsPacketText answer.packets) }
+        ensures held { IfOk result (λ answer. answer.ended ≡ None
+            → self.new.held.held ≡ rest_of self.old.held.held) }
+    {
+        let mut all = no_answer(alloc);
+        'commands: while all.ended.is_none() {
+            match self.next(alloc)? {
+                Next::Answered(answer) => all = joined(all, answer)?,
+                Next::Partial => return Ok(all),
+                Next::TooLong => return Ok(all),
+            }
+        }
+        Ok(all)
+    }
+}
+
+/// What no command leads to. Takes no memory.
+fn no_answer<E>(alloc: Global) -> Answer<E>
+    ensures packets { result.packets ≡ [] }
+    ensures program { result.program ≡ [] }
+    ensures ended { result.ended ≡ None }
+{
+    Answer {
+        packets: Items::of(Vec::new(alloc)),
+        program: Bytes::of(Vec::new(alloc)),
+        ended: None,
+    }
+}
+
+/// An answer that has not ended the session, and the next one behind it. What was there is not copied.
+fn joined<E: Drop>(first: Answer<E>, next: Answer<E>) -> Result<Answer<E>, Memory>
+    ensures packets { IfOk result (λ all. all.packets ≡ first.packets ++ next.packets) }
+    ensures program { IfOk result (λ all. all.program ≡ first.program ++ next.program) }
+    ensures ended { IfOk result (λ all. all.ended ≡ next.ended) }
+{
+    let mut packets = first.packets.into_vec();
+    packets.extend(next.packets.into_vec())?;
+    let mut program = first.program;
+    program.append(next.program.as_slice())?;
+    Ok(Answer {
+        packets: Items::of(packets),
+        program,
+        ended: next.ended,
+    })
 }

@@ -26,7 +26,8 @@ use Rattle.dp_world.specs.declared.errors.ReplayError.{ReplayError}
 use Rattle.dp_world.specs.declared.errors.ReplayError.TheVariants.{OutFault, Memory}
 use Rattle.dp_world.specs.declared.shown.Shown.{Shown}
 use Rattle.dp_world.specs.Replays.{Replays}
-use Rattle.dp_world.specs.Transcript.{line, session, session_of, shown, shown_of, status, transcript}
+use Rattle.dp_world.specs.Transcript.{line, session, session_of, shown, shown_of, transcript}
+use Rattle.dp_state.specs.Statuses.{status}
 use Rattle.dp_world.specs.inner.KeptLinks.{IsTo, Has, IsShown, IsShownAt, AreShown, kept_at, made}
 use Rattle.dp_world.specs.inner.EngineStates.{IsEngineAfter}
 use Rattle.dp_world.specs.inner.LinkLines.{Writes, lines_at, lines_of, AllShown}

@@ -1,10 +1,9 @@
 -- The transcript of a list of events: what each IDE and each engine received, in the order in which
 -- they connected.
 use Rattle.std.specs.Prelude.{ℕ, if◌then◌else◌, List, [], ◌++◌, length, take, flat_map}
-use Rattle.std.specs.Prelude.{Option, Some, None, codes}
+use Rattle.std.specs.Prelude.{codes}
 use Rattle.std.specs.Fmt.{decimal}
-use Rattle.dp_state.specs.declared.moments.Outcome.{Outcome}
-use Rattle.dp_state.specs.declared.moments.Outcome.TheVariants.{Done, Exit, Fatal, Bound}
+use Rattle.dp_state.specs.Statuses.{status}
 use Rattle.dp_world.specs.Alone.{Engines, alone, own, ending}
 use Rattle.dp_registry.specs.declared.pass.Pass.{Pass}
 use Rattle.dp_registry.specs.declared.refusal.Refusal.{Refusal}
@@ -39,14 +38,6 @@ reason refusal.Unknown = codes "unknown"
 reason (refusal.Busy other) = codes "busy " ++ decimal other
 reason (refusal.Full events sessions) = codes "full"
 reason why = []
-
--- how its program ended; one that was killed did not
-abbrev pub status : Option Outcome → ℕ
-status None = 210
-status (Some Done) = 0
-status (Some (Exit number)) = number
-status (Some (Fatal kind file number)) = 255
-status (Some Bound) = 255
 
 -- The whole packets in the first bytes, so many, of what the engine sends, served alone with what
 -- its IDE gave.

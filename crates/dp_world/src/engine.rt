@@ -1,16 +1,17 @@
 //! An engine in memory, with its session.
-ghost use Rattle.std.specs.Prelude.{◌≡◌, ◌≤◌, ◌+◌, [], ◌∷◌, ◌++◌, ℕ, List, flat_map, length, take, drop};
-ghost use Rattle.std.specs.Prelude.{IfOk, MatchOption, OnOk, OnErr};
+ghost use Rattle.std.specs.Prelude.{◌≡◌, ◌≤◌, ◌+◌, [], ◌++◌, ℕ, List, flat_map, length, take, drop};
+ghost use Rattle.std.specs.Prelude.{IfOk, OnOk, OnErr};
 ghost use Rattle.std.specs.List.{AllByRecursion};
 ghost use Rattle.dp_outside.specs.Names.{IsKey};
-ghost use Rattle.dp_wire.specs.Frames.{IsCommand, IsPacketText, commands_in, packet_frame, rest_of};
-ghost use Rattle.dp_world.specs.inner.EngineStates.{GoesOn, IsFirst, Serves};
+ghost use Rattle.dp_wire.specs.Frames.{IsPacketText, commands_in, packet_frame, rest_of};
+ghost use Rattle.dp_world.specs.inner.EngineStates.{Serves};
 
 use crate::engines::Engines;
+use crate::lent::lend;
 use dp_conversation::Answer;
 use dp_state::Outcome;
 use dp_value::{Bytes, Memory};
-use dp_wire::{first_nul, packet_bytes};
+use dp_wire::packet_bytes;
 use std::alloc::Global;
 
 /// An engine in memory. What it has sent is kept whole: what its IDE received is a front of it.
@@ -112,55 +113,34 @@ pub(crate) fn take_in<A: Engines>(
     ensures received { OnOk result (engine.new.received ≡ engine.old.received) }
 {
     engine.given.extend_from_slice(commands)?;
-    answer_all(engine, alloc, engines, commands, steps)
-}
-
-/// It answers whole commands, each with its NUL, up to one that ends the session.
-fn answer_all<A: Engines>(
-    engine: &mut Engine<A::Session, A::End>,
-    alloc: Global,
-    engines: &A,
-    commands: &[u8],
-    steps: &mut A::Steps,
-) -> Result<(), Memory>
-    requires { rest_of commands.now ≡ [] }
-    ensures goes_on { OnOk result
-        (GoesOn (A.known engines.now).step (commands_in commands.now) engine.old engine.new) }
-    ensures given { OnOk result (engine.new.given.items ≡ engine.old.given.items) }
-{
-    let mut rest = commands;
-    'commands: while let Some((line, more)) = first_command(rest) {
-        answer(engine, alloc, engines, line, steps)?;
-        rest = more;
-    }
-    Ok(())
-}
-
-/// It answers a command, unless one has ended the session.
-fn answer<A: Engines>(
-    engine: &mut Engine<A::Session, A::End>,
-    alloc: Global,
-    engines: &A,
-    line: &[u8],
-    steps: &mut A::Steps,
-) -> Result<(), Memory>
-    requires { IsCommand line.now }
-    ensures goes_on { OnOk result (GoesOn (A.known engines.now).step (line.now ∷ []) engine.old engine.new) }
-    ensures given { OnOk result (engine.new.given.items ≡ engine.old.given.items) }
-{
     if engine.ended.is_some() {
         return Ok(());
     }
-    let answer = engines.answer(&mut engine.session, alloc, line, steps)?;
+    let answer = lend(&mut engine.session, alloc, engines, commands, steps)?;
+    engine.ended = note(alloc, answer, &mut engine.sent, &mut engine.own)?;
+    Ok(())
+}
+
+/// Puts the packets of an answer, and what goes to the program's own output, and tells how the session has ended.
+fn note<E: Drop>(
+    alloc: Global,
+    answer: Answer<E>,
+    sent: &mut Vec<u8>,
+    own: &mut Vec<u8>,
+) -> Result<Option<E>, Memory>
+    requires { AllByRecursion IsPacketText answer.packets }
+    ensures sent { OnOk result (sent.new.items ≡ sent.old.items ++ flat_map packet_frame answer.packets) }
+    ensures own { OnOk result (own.new.items ≡ own.old.items ++ answer.program) }
+    ensures ended { IfOk result (λ ended. ended ≡ answer.ended) }
+{
     let Answer {
         packets,
         program,
         ended,
     } = answer;
-    put_packets(alloc, packets.as_slice(), &mut engine.sent)?;
-    engine.own.extend_from_slice(program.as_slice())?;
-    engine.ended = ended;
-    Ok(())
+    put_packets(alloc, packets.as_slice(), sent)?;
+    own.extend_from_slice(program.as_slice())?;
+    Ok(ended)
 }
 
 /// Its session is over: the program runs on to its end, unless a command has killed it.
@@ -207,16 +187,4 @@ fn put_packets(alloc: Global, texts: &[Bytes], sent: &mut Vec<u8>) -> Result<(),
         sent.extend_from_slice(frame.as_slice())?;
     }
     Ok(())
-}
-
-/// The first of whole commands, without its NUL, and those behind it; none of no commands.
-fn first_command(commands: &[u8]) -> Option<(&[u8], &[u8])>
-    requires { rest_of commands.now ≡ [] }
-    ensures { MatchOption result (commands_in commands.now ≡ []) (λ first.
-        IsFirst commands.now first.0.now first.1.now) }
-{
-    match first_nul(commands) {
-        Some(at) => Some((&commands[..at], &commands[at + 1..])),
-        None => None,
-    }
 }

@@ -5,6 +5,7 @@
 mod engine;
 mod engines;
 mod errors;
+mod lent;
 mod lines;
 mod links;
 mod numbers;

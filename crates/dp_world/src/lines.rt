@@ -1,11 +1,12 @@
 //! The lines of the transcript.
 ghost use Rattle.std.specs.Prelude.{◌≡◌, ◌<◌, ◌/◌, ◌%◌, ◌++◌, ◌∷◌, [], flat_map, codes, decimal, OnOk};
 ghost use Rattle.dp_events.specs.Lists.{digit as digit_of, hex};
+ghost use Rattle.dp_state.specs.Statuses.{status};
 ghost use Rattle.dp_world.specs.Transcript as spec;
 
 use crate::engine::Ended;
 use dp_registry::Refusal;
-use dp_state::Outcome;
+use dp_state::status;
 use dp_value::Memory;
 use itoa::Buffer;
 
@@ -175,35 +176,16 @@ pub(crate) fn admission(
     put(text, b"\n")
 }
 
-/// The number by which the transcript tells how a program ended, 210 where it was killed.
-fn status(outcome: Option<Outcome>) -> u64
-    ensures { result ≡ spec.status outcome }
-{
-    match outcome {
-        None => 210,
-        Some(Outcome::Done) => 0,
-        Some(Outcome::Exit(number)) => u64::from(number),
-        Some(
-            Outcome::Fatal {
-                kind: _,
-                file: _,
-                line: _,
-            },
-        ) => 255,
-        Some(Outcome::Bound) => 255,
-    }
-}
-
 /// The lines of a session that is over: what its IDE and its engine received, and what became of the program.
 pub(crate) fn service(text: &mut Vec<u8>, end: &Ended) -> Result<(), Memory>
     ensures { OnOk result (text.new.items ≡ text.old.items
         ++ (spec.line (codes "ide") (hex end.now.received.items)
         ++ spec.line (codes "engine") (hex end.now.given.items)
         ++ spec.line (codes "output") (hex end.now.own.items)
-        ++ spec.line (codes "end") (decimal (spec.status end.now.outcome)))) }
+        ++ spec.line (codes "end") (decimal (status end.now.outcome)))) }
 {
     hex_line(text, b"ide", end.received.as_slice())?;
     hex_line(text, b"engine", end.given.as_slice())?;
     hex_line(text, b"output", end.own.as_slice())?;
-    number_line(text, b"end", status(end.outcome))
+    number_line(text, b"end", u64::from(status(end.outcome)))
 }
