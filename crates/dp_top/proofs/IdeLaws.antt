@@ -259,6 +259,7 @@ module _ (port line : ℕ) (script : List ℕ) (old new : Seen) (told : IsSome o
   unread (failure.Packet offset) name h = absurd h
   unread failure.Network name h = absurd h
   unread failure.Stopped name h = absurd h
+  unread (failure.Lies line) name h = absurd h
 
   refusal : (why : Failure) (name : List ℕ) → IdeFails why name port script old new → IsRefusal why
   refusal why name (inl memory) = inr (inl (ap status_of memory.0))
@@ -325,6 +326,7 @@ module _ (port : ℕ) (script : List ℕ) (instructions : List Instruction) (old
   unread_not (failure.Packet offset) name h is = absurd h
   unread_not failure.Network name h is = absurd h
   unread_not failure.Stopped name h is = absurd h
+  unread_not (failure.Lies line) name h is = absurd h
 
   no_refusal : (why : Failure) (name : List ℕ) → IdeFails why name port script old new → status_of why ≡ 204 → ⊥
   no_refusal why name (inl memory) is = omega (arith, ap status_of memory.0, is)
@@ -386,6 +388,7 @@ module _ (port : ℕ) (script : List ℕ) (instructions : List Instruction) (old
     unread_ends (failure.Packet offset) name h = h
     unread_ends failure.Network name h = h
     unread_ends failure.Stopped name h = h
+    unread_ends (failure.Lies line) name h = h
 
     ide_end : (why : Failure) (name : List ℕ) → IdeFails why name port script old new → IsIdeEnd why
     ide_end why name (inl memory) = inr (inr (inr (ap status_of memory.0)))

@@ -10,3 +10,6 @@ pub mod TellingLaws
 pub mod ProxyLaws
 pub mod ReplayLaws
 pub mod ReplayReports
+pub mod RecordLaws
+pub mod RecordEnds
+pub mod RecordReports

@@ -27,6 +27,7 @@ bad_bytes first failure.PeerEnd name file bytes files before after fetched bad =
 bad_bytes first (failure.Packet offset) name file bytes files before after fetched bad = absurd bad
 bad_bytes first failure.Network name file bytes files before after fetched bad = absurd bad
 bad_bytes first failure.Stopped name file bytes files before after fetched bad = absurd bad
+bad_bytes first (failure.Lies line) name file bytes files before after fetched bad = absurd bad
 
 -- a told file has one content
 pub same_content : (files : Files) (name : List ℕ) (limit : ℕ) (one other : List ℕ) → IsSome files

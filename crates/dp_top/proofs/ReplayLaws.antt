@@ -57,6 +57,7 @@ none_bad failure.PeerEnd ask files fine = tt
 none_bad (failure.Packet offset) ask files fine = tt
 none_bad failure.Network ask files fine = tt
 none_bad failure.Stopped ask files fine = tt
+none_bad (failure.Lies line) ask files fine = tt
 none_bad failure.Memory ask files fine = tt
 
 -- the files were fetched, so they were before whatever is refused
@@ -75,6 +76,7 @@ all_before failure.PeerEnd ask files fetched are = tt
 all_before (failure.Packet offset) ask files fetched are = tt
 all_before failure.Network ask files fetched are = tt
 all_before failure.Stopped ask files fetched are = tt
+all_before (failure.Lies line) ask files fetched are = tt
 all_before failure.Memory ask files fetched are = tt
 
 pub held_list : (files : Files) (name content : List ℕ) (events : List Event) → Fetches files name lines_limit content
@@ -129,6 +131,7 @@ module _ (files : Files) (before after : ℕ) (events : List ℕ) (list : List E
     by (failure.Packet offset) is b = absurd b
     by failure.Network is b = absurd b
     by failure.Stopped is b = absurd b
+    by (failure.Lies line) is b = absurd b
 
   -- a list that was not fetched
   pub unlisted_held : UnreadSo IsFirstBad refused.failure refused.name.now events files before after
@@ -161,6 +164,7 @@ module _ (files : Files) (before after : ℕ) (events : List ℕ) (list : List E
     by (failure.Packet offset) is u = absurd u
     by failure.Network is u = absurd u
     by failure.Stopped is u = absurd u
+    by (failure.Lies line) is u = absurd u
 
 -- a list that was replayed over a program
 pub over_complete : (asked : Result Bundle BundleError) (program : Bundle) (result : Result ℕ Refused)

@@ -64,6 +64,7 @@ module _ (files : Files) (before after : ℕ) (out : Change) (events : List ℕ)
   unlisted (failure.Packet offset) name h = absurd h
   unlisted failure.Network name h = absurd h
   unlisted failure.Stopped name h = absurd h
+  unlisted (failure.Lies line) name h = absurd h
 
   no_files : (why : Failure) (name : List ℕ) (u : IsUnreplayed why name events ask files before after)
       → IsListEnd why before after
@@ -134,6 +135,7 @@ module _ (files : Files) (before after : ℕ) (out : Change) (events : List ℕ)
   unlisted_not (failure.Packet offset) name h = absurd h
   unlisted_not failure.Network name h = absurd h
   unlisted_not failure.Stopped name h = absurd h
+  unlisted_not (failure.Lies line) name h = absurd h
 
   no_script : (why : Failure) (cause : ProgramError) → why ≡ program_failure cause → status_of why ≡ 204 → ⊥
   no_script why (none.Shelf file) is e = omega (arith, ap status_of is, e)

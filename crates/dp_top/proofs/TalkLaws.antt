@@ -55,11 +55,11 @@ by_its_end unsent ask served end told is e = e ∙ ap (judged_by unsent ask serv
 
 -- ---- no end of a session is a bad source
 
-abbrev IsGoodReport : EndReport → Type 0
+abbrev pub IsGoodReport : EndReport → Type 0
 IsGoodReport (Ok status) = Unit {0}
 IsGoodReport (Err why) = IsGood why.0
 
-good_end : (ask : Invocation) (outcome : Option Outcome) → IsGoodReport (ended ask outcome)
+pub good_end : (ask : Invocation) (outcome : Option Outcome) → IsGoodReport (ended ask outcome)
 good_end ask None = ((λ e. omega (arith, e)), (λ e. cc))
 good_end ask (Some way.Done) = tt
 good_end ask (Some (way.Exit status)) = tt
@@ -97,7 +97,7 @@ end_small ask state status (way.Exit n) is e =
 end_small ask state status (way.Fatal kind file line) is e = absurd (cc)
 end_small ask state status way.Bound is e = absurd (cc)
 
-ended_small : (ask : Invocation) (ended_by : Option SessionEnd) (state : State) (status : ℕ)
+pub ended_small : (ask : Invocation) (ended_by : Option SessionEnd) (state : State) (status : ℕ)
     → ended ask (ending_after ended_by state) ≡ Ok status → status ≤ 199
 ended_small ask (Some Killed) state status e = absurd (cc)
 ended_small ask (Some gone) state status e = end_small ask state status (outcome_of state) refl e

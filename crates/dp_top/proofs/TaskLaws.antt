@@ -26,7 +26,7 @@ use Rattle.dp_program.specs.Runs.{RunCaused}
 use Rattle.dp_state.specs.declared.moments.Outcome.{Outcome}
 use Rattle.dp_state.specs.declared.moments.Outcome.TheVariants as way
 use Rattle.dp_top.specs.declared.failures.Refused.{Refused}
-use Rattle.dp_words.specs.Words.{Address, Invocation, IsEngine, IsProxy, IsRun, IsSoak, IsTalk, Service, Task, run, talk, engine, ide, replay, soak, proxy, show, IsInvocation, invocation_in, invocation_of, port_of, seed_limit, served_count_of, session_count_of, uses_net, uses_shelf, uses_spawner}
+use Rattle.dp_words.specs.Words.{Address, Invocation, IsEngine, IsProxy, IsRun, IsSoak, IsTalk, Service, Task, run, talk, tape, audit, engine, ide, replay, soak, proxy, show, IsInvocation, invocation_in, invocation_of, port_of, seed_limit, served_count_of, session_count_of, uses_net, uses_shelf, uses_spawner}
 use Rattle.dp_outside.specs.Links.{CountsReturned}
 use Rattle.dp_top.specs.Engine.{EngineFails, EndsSo as EngineEnds}
 use Rattle.dp_top.specs.Links.{IsDialled}
@@ -43,6 +43,7 @@ use Rattle.dp_top.specs.Soak.{SoakFails}
 use Rattle.dp_top.specs.Talk.{EndReport, EndsSo, TalkFails, ended, judged_by}
 use Rattle.dp_top.specs.Tasks.{failure_of, ShowCaused, Does, Caused, Fails, IsFetchedFor, before_line}
 use Rattle.dp_top.proofs.RunReports.{bad_source, nothing_fetched}
+use Rattle.dp_top.proofs.RecordLaws.{audit_starved, tape_starved}
 use Rattle.dp_program.proofs.GrownNames.{grown_by_none}
 
 -- ---- the task that words ask for
@@ -50,6 +51,14 @@ use Rattle.dp_program.proofs.GrownNames.{grown_by_none}
 abbrev asked_talk : ℕ → List (List ℕ) → Option Task
 asked_talk bound [] = None
 asked_talk bound (key ∷ names) = Some (talk key (record { bound = bound; names = names }))
+
+abbrev asked_tape : ℕ → List (List ℕ) → Option Task
+asked_tape bound [] = None
+asked_tape bound (key ∷ names) = Some (tape key (record { bound = bound; names = names }))
+
+abbrev asked_audit : ℕ → List (List ℕ) → Option Task
+asked_audit bound [] = None
+asked_audit bound (key ∷ names) = Some (audit key (record { bound = bound; names = names }))
 
 abbrev asked_engine : ℕ → List (List ℕ) → Option Task
 asked_engine bound (host ∷ number ∷ key ∷ names) =
@@ -87,11 +96,13 @@ abbrev asked_by : List ℕ → List (List ℕ) → Option Task
 asked_by name behind =
     if bytes_eq name (codes "run") then option_map run (invocation_of behind)
     else (if bytes_eq name (codes "talk") then asked_behind asked_talk behind
+    else (if bytes_eq name (codes "tape") then asked_behind asked_tape behind
+    else (if bytes_eq name (codes "audit") then asked_behind asked_audit behind
     else (if bytes_eq name (codes "engine") then asked_behind asked_engine behind
     else (if bytes_eq name (codes "ide") then asked_ide behind
     else (if bytes_eq name (codes "replay") then asked_behind asked_replay behind
     else (if bytes_eq name (codes "soak") then asked_soak behind
-    else (if bytes_eq name (codes "proxy") then asked_proxy behind else Some show))))))
+    else (if bytes_eq name (codes "proxy") then asked_proxy behind else Some show))))))))
 
 abbrev asked : List (List ℕ) → Option Task
 asked [] = None
@@ -102,6 +113,12 @@ asked_so words (run ask) h = ap asked h.words_are ∙ ap (option_map run) h.foll
 asked_so words (talk key ask) h =
     ap asked h.words_are
     ∙ ap (option_and_then (λ (a : Invocation). asked_talk a.bound a.names)) h.speaks.invocation
+asked_so words (tape key ask) h =
+    ap asked h.words_are
+    ∙ ap (option_and_then (λ (a : Invocation). asked_tape a.bound a.names)) h.speaks.invocation
+asked_so words (audit key ask) h =
+    ap asked h.words_are
+    ∙ ap (option_and_then (λ (a : Invocation). asked_audit a.bound a.names)) h.speaks.invocation
 asked_so words (engine address key ask) h =
     ap asked h.words_are
     ∙ ap (option_and_then (λ (a : Invocation). asked_engine a.bound a.names)) h.dials.invocation
@@ -161,6 +178,7 @@ show_cut failure.Memory input out h = h
 show_cut failure.TooLong input out h = absurd h
 show_cut (failure.Source reason number) input out h = absurd h
 show_cut failure.Stopped input out h = absurd h
+show_cut (failure.Lies line) input out h = absurd h
 show_cut failure.ShelfFailed input out h = absurd h
 show_cut (failure.Fatal kind line) input out h = absurd h
 show_cut (failure.Bound steps) input out h = absurd h
@@ -172,6 +190,8 @@ show_cut (failure.Differs line wanted found) input out h = absurd h
 abbrev memory_name : Task → List ℕ → List ℕ
 memory_name (run ask) name = []
 memory_name (talk key ask) name = name
+memory_name (tape key ask) name = name
+memory_name (audit key ask) name = name
 memory_name (engine address key ask) name = name
 memory_name (ide port script) name = name
 memory_name (replay events ask) name = name
@@ -232,6 +252,8 @@ memory_instead : (failed : Failure) (name : List ℕ) (task : Task) (old new : S
 memory_instead failed name (run ask) old new h =
     (record { why = h.0.why; caused = h.0.caused; reported = inr (refl, refl) }, h.1, h.2, h.3)
 memory_instead failed name (talk key ask) old new h = (talk_starved failed name key ask old new h.0, h.1)
+memory_instead failed name (tape key ask) old new h = (tape_starved failed name key ask old new h.0, h.1)
+memory_instead failed name (audit key ask) old new h = (audit_starved failed name key ask old new h.0, h.1)
 memory_instead failed name (engine address key ask) old new h = engine_starved failed name address key ask old new h
 memory_instead failed name (ide port script) old new h = ide_starved failed name port script old new h
 memory_instead failed name (replay events ask) old new h =
@@ -280,6 +302,7 @@ above : (failed : Failure) → 200 < status_of failed
 above failure.TooLong = omega arith
 above (failure.Source reason number) = omega arith
 above failure.Stopped = omega arith
+above (failure.Lies line) = omega arith
 above failure.ShelfFailed = omega arith
 above failure.NoFile = omega arith
 above (failure.Script line) = omega arith
@@ -321,18 +344,18 @@ no_program failed files before after names good shelf none.Memory caused told = 
 -- where no count rose and the files are not told as bad, what fails is a packet, the program's end, a stop or memory
 module _ (failed : Failure) (name key : List ℕ) (ask : Invocation) (old new : Seen) (good : IsGood failed)
     (none : NoneRose old new) where
-  abbrev IsTalkEnd : Failure → Type 0
+  abbrev pub IsTalkEnd : Failure → Type 0
   IsTalkEnd f = (status_of f ≡ 207) ⊎ (status_of f ≡ 210) ⊎ (status_of f ≡ 255) ⊎ (status_of f ≡ 209)
 
-  unserved : (why : ProgramError) → ProgramCaused why old.shelf.files old.shelf.faults new.shelf.faults ask.names
+  pub unserved : (why : ProgramError) → ProgramCaused why old.shelf.files old.shelf.faults new.shelf.faults ask.names
       → failed ≡ program_failure why → IsTalkEnd failed
   unserved why caused told = inr (inr (inr (no_program failed _ _ _ ask.names good none.shelf why caused told)))
 
-  abbrev failure_in : EndReport → Failure
+  abbrev pub failure_in : EndReport → Failure
   failure_in (Ok status) = failure.Memory
   failure_in (Err why) = why.0
 
-  by_outcome : (outcome : Option Outcome) → ended ask outcome ≡ Err (failed, name) → IsTalkEnd failed
+  pub by_outcome : (outcome : Option Outcome) → ended ask outcome ≡ Err (failed, name) → IsTalkEnd failed
   by_outcome None e = let same : failure.Stopped ≡ failed = ap failure_in e in inr (inl (sym (ap status_of same)))
   by_outcome (Some way.Done) e = absurd (cc)
   by_outcome (Some (way.Exit status)) e = absurd (cc)
@@ -388,7 +411,7 @@ module _ (failed : Failure) (name key : List ℕ) (ask : Invocation) (old new : 
   talk_end (inr (inr h)) = by_end h h.served.end refl h.is.serves h.reported
 
 -- what the files of the program that is asked for make decides whether it fails by a bad source
-abbrev IsNoBadTask : Task → Refused → Seen → Seen → Type 0
+abbrev pub IsNoBadTask : Task → Refused → Seen → Seen → Type 0
 IsNoBadTask task refused old new =
     (ask : Invocation) → invocation_in task ≡ Some ask → AreComplete {A = ℕ} ask (Err refused) old new
 
@@ -514,6 +537,8 @@ done_offline : (status : ℕ) (task : Task) (old new : Seen) → Does status tas
     → new.net ≡ old.net
 done_offline status (run ask) old new h e = h.3
 done_offline status (talk key ask) old new h e = h.1
+done_offline status (tape key ask) old new h e = h.1
+done_offline status (audit key ask) old new h e = h.1
 done_offline status (engine address key ask) old new h e = absurd cc
 done_offline status (ide port script) old new h e = absurd cc
 done_offline status (replay events ask) old new h e = h.3
@@ -525,6 +550,8 @@ caused_offline : (failed : Failure) (name : List ℕ) (task : Task) (old new : S
     → uses_net task ≡ false → new.net ≡ old.net
 caused_offline failed name (run ask) old new h e = h.3
 caused_offline failed name (talk key ask) old new h e = h.1
+caused_offline failed name (tape key ask) old new h e = h.1
+caused_offline failed name (audit key ask) old new h e = h.1
 caused_offline failed name (engine address key ask) old new h e = absurd cc
 caused_offline failed name (ide port script) old new h e = absurd cc
 caused_offline failed name (replay events ask) old new h e = h.3
@@ -617,6 +644,7 @@ show_fails failure.Memory input out i o h = inr (inr refl)
 show_fails failure.TooLong input out i o h = absurd h
 show_fails (failure.Source reason number) input out i o h = absurd h
 show_fails failure.Stopped input out i o h = absurd h
+show_fails (failure.Lies line) input out i o h = absurd h
 show_fails failure.ShelfFailed input out i o h = absurd h
 show_fails (failure.Fatal kind line) input out i o h = absurd h
 show_fails (failure.Bound steps) input out i o h = absurd h
@@ -660,6 +688,8 @@ asks_fetched words task other before after asks is asked =
 pub none_fetched : (task : Task) (told : RequestedNames) → IsFetchedFor task told told
 none_fetched (run ask) told = nothing_fetched (Some ask) told
 none_fetched (talk key ask) told = nothing_fetched (Some ask) told
+none_fetched (tape key ask) told = nothing_fetched (Some ask) told
+none_fetched (audit key ask) told = nothing_fetched (Some ask) told
 none_fetched (engine address key ask) told = nothing_fetched (Some ask) told
 none_fetched (ide port script) told = (0, grown_by_none told)
 none_fetched (replay events ask) told = (0, grown_by_none told)

@@ -1,5 +1,5 @@
 -- What is reported of a failure: a status, and a line on the error output.
-use Rattle.std.specs.Prelude.{◌⊎◌, ℕ, List, ◌++◌, codes, Option, Some, None}
+use Rattle.std.specs.Prelude.{◌⊎◌, ℕ, List, [], ◌++◌, codes, Option, Some, None}
 use Rattle.std.specs.Fmt.{decimal}
 use Rattle.std.specs.Io.KnownBytes.{Appends}
 use Rattle.dp_outside.specs.Causes.{Rose}
@@ -9,9 +9,10 @@ use Rattle.dp_tree.specs.FileNames.{file_limit}
 use Rattle.dp_state.specs.declared.moments.FatalKind.{FatalKind}
 use Rattle.dp_state.specs.declared.moments.FatalKind.TheVariants as kinds
 use Rattle.dp_top.specs.declared.failures.Failure.{Failure}
-use Rattle.dp_top.specs.declared.failures.Failure.TheVariants.{TooLong, Source, ShelfFailed, NoFile, Fatal, Bound, Output, Script, Differs, PeerEnd, Packet, Network, Stopped, Memory}
+use Rattle.dp_top.specs.declared.failures.Failure.TheVariants.{TooLong, Source, ShelfFailed, NoFile, Fatal, Bound, Output, Script, Differs, PeerEnd, Packet, Network, Stopped, Lies, Memory}
 use Rattle.dp_top.specs.Sources.{reason_name, bad_source}
-use Rattle.dp_top.specs.Statuses.{source_status, shelf_status, output_status, script_status, differs_status, peer_end_status, packet_status, network_status, memory_status, stopped_status, unfinished_status}
+use Rattle.dp_state.specs.Statuses.{killed_status, unfinished_status}
+use Rattle.dp_top.specs.Statuses.{source_status, shelf_status, output_status, script_status, differs_status, peer_end_status, packet_status, network_status, memory_status, lies_status}
 
 -- the status that the call answers
 abbrev pub status_of : Failure → ℕ
@@ -27,7 +28,8 @@ status_of (Differs line wanted found) = differs_status
 status_of PeerEnd = peer_end_status
 status_of (Packet offset) = packet_status
 status_of Network = network_status
-status_of Stopped = stopped_status
+status_of Stopped = killed_status
+status_of (Lies line) = lies_status
 status_of Memory = memory_status
 
 -- the name of a fatal fault
@@ -67,7 +69,7 @@ differs_line line wanted found =
     codes "differs line " ++ decimal line ++ codes " wanted " ++ wanted ++ codes " found "
     ++ found_text found ++ codes "\n"
 
--- the line on the error output
+-- the line on the error output; none where what differs was printed
 abbrev pub line_of : Failure → List ℕ → List ℕ
 line_of TooLong name = bad_source name (codes "TooLong") file_limit
 line_of (Source reason number) name = bad_source name (reason_name reason) number
@@ -82,6 +84,7 @@ line_of PeerEnd name = codes "peer ended\n"
 line_of (Packet offset) name = codes "bad packet offset " ++ decimal offset ++ codes "\n"
 line_of Network name = codes "network failed\n"
 line_of Stopped name = codes "stopped by the IDE\n"
+line_of (Lies line) name = []
 line_of Memory name = codes "out of memory\n"
 
 -- the line was put, or the put failed and a front of it stands there

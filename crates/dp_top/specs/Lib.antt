@@ -3,6 +3,7 @@ pub mod Engine
 pub mod Engines
 pub mod Failures
 pub mod Ide
+pub mod Records
 pub mod Replay
 pub mod Links
 pub mod Proxy

@@ -45,10 +45,6 @@ network_status = 208
 abbrev pub memory_status : ℕ
 memory_status = 209
 
--- a command stopped the program before its end
-abbrev pub stopped_status : ℕ
-stopped_status = 210
-
--- the program could not go on, or reached its bound
-abbrev pub unfinished_status : ℕ
-unfinished_status = 255
+-- a record tells something else than its session does
+abbrev pub lies_status : ℕ
+lies_status = 211

@@ -5,12 +5,13 @@ use Rattle.dp_show.specs.declared.errors.ShowError.{ShowError}
 use Rattle.dp_show.specs.declared.errors.ShowError.TheVariants as ends
 use Rattle.dp_show.specs.Shows.{Shows, Ends}
 use Rattle.dp_top.specs.declared.failures.Failure.{Failure}
-use Rattle.dp_top.specs.declared.failures.Failure.TheVariants.{TooLong, Source, ShelfFailed, NoFile, Fatal, Bound, Output, Script, Differs, PeerEnd, Packet, Network, Stopped, Memory}
-use Rattle.dp_words.specs.Words.{Task, run, talk, engine, ide, replay, soak, proxy, show, IsInvocation, invocation_in}
+use Rattle.dp_top.specs.declared.failures.Failure.TheVariants.{TooLong, Source, ShelfFailed, NoFile, Fatal, Bound, Output, Script, Differs, PeerEnd, Packet, Network, Stopped, Lies, Memory}
+use Rattle.dp_words.specs.Words.{Task, run, talk, tape, audit, engine, ide, replay, soak, proxy, show, IsInvocation, invocation_in}
 use Rattle.dp_relay.specs.Relays.{faults}
 use Rattle.dp_top.specs.Engine.{Engages, EngineFails}
 use Rattle.dp_top.specs.Ide.{Plays, IdeFails}
 use Rattle.dp_top.specs.Proxy.{Proxies, ProxyFails}
+use Rattle.dp_top.specs.Records.{Audits, AuditFails, Tapes, TapeFails}
 use Rattle.dp_top.specs.Replay.{DoesReplay, ReplayFails}
 use Rattle.dp_top.specs.Failures.{status_of, line_of, Says}
 use Rattle.dp_program.specs.Runs.{Runs}
@@ -41,6 +42,7 @@ ShowCaused Memory input out = Ends (Err ends.Memory) input out
 ShowCaused TooLong input out = ⊥
 ShowCaused (Source reason number) input out = ⊥
 ShowCaused Stopped input out = ⊥
+ShowCaused (Lies line) input out = ⊥
 ShowCaused ShelfFailed input out = ⊥
 ShowCaused (Fatal kind line) input out = ⊥
 ShowCaused (Bound steps) input out = ⊥
@@ -63,6 +65,8 @@ Does status (run ask) old new =
     Runs status old.shelf.files ask.names ask.bound (changed old.out new.out)
     × IsStill old.input new.input × IsStill old.err new.err × IsOffline old new
 Does status (talk key ask) old new = Talks status key ask old new × IsOffline old new
+Does status (tape key ask) old new = Tapes status key ask old new × IsOffline old new
+Does status (audit key ask) old new = Audits status key ask old new × IsOffline old new
 Does status (engine address key ask) old new = Engages status address key ask old new
 Does status (ide port script) old new = Plays status port script old new
 Does status (replay events ask) old new =
@@ -87,6 +91,10 @@ Caused failure name (run ask) old new =
     × IsStill old.input new.input × IsStill old.err new.err × IsOffline old new
 Caused failure name (talk key ask) old new =
     TalkFails failure name key ask old new × IsOffline old new
+Caused failure name (tape key ask) old new =
+    TapeFails failure name key ask old new × IsOffline old new
+Caused failure name (audit key ask) old new =
+    AuditFails failure name key ask old new × IsOffline old new
 Caused failure name (engine address key ask) old new =
     EngineFails failure name address key ask old new
 Caused failure name (ide port script) old new = IdeFails failure name port script old new

@@ -6,16 +6,17 @@ use Rattle.dp_ide.specs.declared.instruction.Instruction.{Instruction}
 use Rattle.dp_events.specs.declared.event.Event.{Event}
 use Rattle.dp_program.specs.Programs.{FilesMake}
 use Rattle.dp_tree.specs.declared.bundle.Bundle.{Bundle}
-use Rattle.dp_words.specs.Words.{Address, Invocation, IsEngine, IsIde, IsInvocation, IsProxy, IsReplay, Service}
-use Rattle.dp_words.specs.Words.{IsRun, IsSoak, IsTalk, Task, show, invocation_in, uses_net, uses_shelf, uses_spawner}
+use Rattle.dp_words.specs.Words.{Address, Invocation, IsAudit, IsEngine, IsIde, IsInvocation, IsProxy, IsReplay, Service}
+use Rattle.dp_words.specs.Words.{IsRun, IsSoak, IsTalk, IsTape, Task, show, invocation_in, uses_net, uses_shelf, uses_spawner}
 use Rattle.dp_words.specs.Plain.{are_plain}
 use Rattle.dp_top.specs.Failures.{Says}
 use Rattle.dp_top.specs.Ide.{IsNoScript, IsScriptFile}
 use Rattle.dp_top.specs.Replay.{IsListFile, IsNoList}
 use Rattle.dp_top.specs.Seen.{NoneRose, Seen, changed}
+use Rattle.dp_state.specs.Statuses.{killed_status, unfinished_status}
 use Rattle.dp_top.specs.Statuses.{exit_limit, usage_status, source_status, script_status}
 use Rattle.dp_top.specs.Statuses.{differs_status, peer_end_status, packet_status, memory_status}
-use Rattle.dp_top.specs.Statuses.{stopped_status, unfinished_status}
+use Rattle.dp_top.specs.Statuses.{lies_status}
 use Rattle.dp_top.specs.Tasks.{Fails, IsDone, IsFetchedFor, IsOffline, IsStill, IsUnread}
 
 -- The call was made with these words and answered this status; the objects told `old` before it and
@@ -53,13 +54,23 @@ pub record Answers (status : ℕ) (words : List (List ℕ)) (old new : Seen) : T
   -- Likewise the session is served whole, or what is no command is reported.
   pub complete_talk : (key : List ℕ) (ask : Invocation) (program : Bundle) → IsTalk words key ask
       → FilesMake old.shelf.files ask.names (Ok program) → NoneRose old new
-      → (status ≤ exit_limit) ⊎ (status ≡ packet_status) ⊎ (status ≡ stopped_status)
+      → (status ≤ exit_limit) ⊎ (status ≡ packet_status) ⊎ (status ≡ killed_status)
       ⊎ (status ≡ unfinished_status) ⊎ (status ≡ memory_status)
+  -- Likewise where its record is written.
+  pub complete_tape : (key : List ℕ) (ask : Invocation) (program : Bundle) → IsTape words key ask
+      → FilesMake old.shelf.files ask.names (Ok program) → NoneRose old new
+      → (status ≤ exit_limit) ⊎ (status ≡ packet_status) ⊎ (status ≡ killed_status)
+      ⊎ (status ≡ unfinished_status) ⊎ (status ≡ memory_status)
+  -- Likewise a record is honest, or it is told where it differs or is none.
+  pub complete_audit : (key : List ℕ) (ask : Invocation) (program : Bundle) → IsAudit words key ask
+      → FilesMake old.shelf.files ask.names (Ok program) → NoneRose old new
+      → (status ≡ 0) ⊎ (status ≡ lies_status) ⊎ (status ≡ script_status)
+      ⊎ (status ≡ memory_status)
   -- Likewise over a link that was dialled.
   pub complete_engine : (address : Address) (key : List ℕ) (ask : Invocation) (program : Bundle)
       → IsEngine words address key ask
       → FilesMake old.shelf.files ask.names (Ok program) → NoneRose old new
-      → (status ≤ exit_limit) ⊎ (status ≡ packet_status) ⊎ (status ≡ stopped_status)
+      → (status ≤ exit_limit) ⊎ (status ≡ packet_status) ⊎ (status ≡ killed_status)
       ⊎ (status ≡ unfinished_status) ⊎ (status ≡ memory_status)
   -- Where they make none, that is reported, unless the shelf fails first.
   pub refused : (task : Task) (ask : Invocation) (why : BundleError) → IsInvocation words task

@@ -6,5 +6,6 @@ pub mod Carried
 pub mod Completeness
 pub mod Kept
 pub mod Proxied
+pub mod Recorded
 pub mod Sessions
 pub mod EventLists

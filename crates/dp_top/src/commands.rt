@@ -16,6 +16,7 @@ use crate::failures::{Failure, Refused};
 use crate::ide::ide;
 use crate::objects::Objects;
 use crate::proxy::proxy;
+use crate::records::{audit, tape};
 use crate::replay::replay;
 use crate::run::run;
 use crate::soak::soak;
@@ -101,6 +102,8 @@ pub(crate) fn carry_out<
     match command {
         Command::Run(program) => run(alloc, program, objects.shelf, objects.out),
         Command::Talk(request) => talk(alloc, request, objects),
+        Command::Tape(request) => tape(alloc, request, objects),
+        Command::Audit(request) => audit(alloc, request, objects),
         Command::Engine(request) => engine(alloc, request, objects),
         Command::Ide(request) => ide(rt, alloc, request, objects),
         Command::Replay(request) => replay(alloc, request, objects.shelf, objects.out),

@@ -6,10 +6,11 @@ ghost use Rattle.dp_top.specs.Failures.{status_of, line_of, kind_name, fatal_lin
 ghost use Rattle.dp_top.specs.Statuses.{memory_status};
 
 use crate::statuses;
+use dp_conversation::put_unless_empty;
 use dp_lexer::LexError;
 use dp_outside::Sink;
 use dp_parse::ParseError;
-use dp_state::FatalKind;
+use dp_state::{FatalKind, KILLED_STATUS, UNFINISHED_STATUS};
 use dp_tree::FILE_LIMIT;
 use dp_value::{Bytes, Memory};
 use std::alloc::{AllocError, AllocFailed, Global};
@@ -88,6 +89,10 @@ pub(crate) enum Failure {
     Network,
     /// A command stopped the program before its end.
     Stopped,
+    /// On this line a record tells something else than its session does.
+    Lies {
+        line: u64,
+    },
     /// Out of memory.
     Memory,
 }
@@ -179,8 +184,8 @@ impl Failure {
             } => statuses::SOURCE,
             Failure::ShelfFailed => statuses::SHELF,
             Failure::NoFile => statuses::SHELF,
-            Failure::Fatal { kind: _, line: _ } => statuses::UNFINISHED,
-            Failure::Bound { steps: _ } => statuses::UNFINISHED,
+            Failure::Fatal { kind: _, line: _ } => UNFINISHED_STATUS,
+            Failure::Bound { steps: _ } => UNFINISHED_STATUS,
             Failure::Output => statuses::OUTPUT,
             Failure::Script { line: _ } => statuses::SCRIPT,
             Failure::Differs {
@@ -191,7 +196,8 @@ impl Failure {
             Failure::PeerEnd => statuses::PEER_END,
             Failure::Packet { offset: _ } => statuses::PACKET,
             Failure::Network => statuses::NETWORK,
-            Failure::Stopped => statuses::STOPPED,
+            Failure::Stopped => KILLED_STATUS,
+            Failure::Lies { line: _ } => statuses::LIES,
             Failure::Memory => statuses::MEMORY,
         }
     }
@@ -218,6 +224,8 @@ impl Failure {
             Failure::Packet { offset } => bad_packet(alloc, *offset),
             Failure::Network => Bytes::from_slice(alloc, b"network failed\n"),
             Failure::Stopped => Bytes::from_slice(alloc, b"stopped by the IDE\n"),
+            // What differs was printed.
+            Failure::Lies { line: _ } => Ok(Bytes::of(Vec::new(alloc))),
             Failure::Memory => Bytes::from_slice(alloc, b"out of memory\n"),
         }
     }
@@ -339,12 +347,12 @@ fn differs(alloc: Global, line: u64, wanted: &[u8], found: &[u8]) -> Result<Byte
     Ok(Bytes::of(text))
 }
 
-/// Puts a line. A line that the output refuses is dropped.
+/// Puts a line, if there is one. A line that the output refuses is dropped.
 pub(crate) fn say<E: Sink>(err: &mut E, line: &[u8])
     ensures says { Says (change E.taken E.faults err.old err.new) line.now }
     ensures later { E.faults err.old ≤ E.faults err.new }
 {
-    let _ = err.put(line);
+    let _ = put_unless_empty(err, line);
 }
 
 /// Tells a failure on the error output, and answers its status; out of memory where there is none for its line.

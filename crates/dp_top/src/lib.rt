@@ -10,6 +10,7 @@ mod lines;
 mod numbers;
 mod objects;
 mod proxy;
+mod records;
 mod replay;
 mod run;
 mod sessions;

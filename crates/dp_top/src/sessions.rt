@@ -21,7 +21,10 @@ use std::alloc::Global;
 use std::sync::ledger::{Blank, Ledger};
 
 /// What the end of a program says of the command; a program that has none was stopped.
-fn judge_end<'a>(program: Program<'a>, outcome: Option<Outcome>) -> Result<u8, Refused<'a>>
+pub(crate) fn judge_end<'a>(
+    program: Program<'a>,
+    outcome: Option<Outcome>,
+) -> Result<u8, Refused<'a>>
     ensures { reported_in result ≡ ended (invocation_seen program.entry) outcome }
 {
     match outcome {

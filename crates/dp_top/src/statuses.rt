@@ -30,8 +30,5 @@ pub(crate) const NETWORK: u8 = 208;
 /// Memory ran out.
 pub(crate) const MEMORY: u8 = 209;
 
-/// A command stopped the program before its end.
-pub(crate) const STOPPED: u8 = 210;
-
-/// The program could not go on, or reached its bound.
-pub(crate) const UNFINISHED: u8 = 255;
+/// A record tells something else than its session does.
+pub(crate) const LIES: u8 = 211;

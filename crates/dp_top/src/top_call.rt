@@ -16,7 +16,9 @@ use std::thread::Threads;
 ///
 /// `words` are the command line without the program's name: `run [--bound N] FILE..` runs the program of the files, of
 /// which the first is the main one, and puts its output on `out`; `talk [--bound N] KEY FILE..` serves a session of KEY
-/// over the program, with `input` and `out` as the link, and the program's own output on `err`; `engine [--bound N]
+/// over the program, with `input` and `out` as the link, and the program's own output on `err`; `tape [--bound N] KEY
+/// FILE..` serves it the same commands and writes the record of it on `out`; `audit [--bound N] KEY FILE..` reads a
+/// record from `input` and prints on `out` whether it is honest, or the first line that differs; `engine [--bound N]
 /// HOST PORT KEY FILE..` serves one over a link that `net` dials, with the program's own output on `out`; `ide PORT
 /// SCRIPT` plays the script over the link that an engine makes to the port, and what it prints goes to `out`; `replay
 /// [--bound N] EVENTS FILE..` writes the transcript of the list of events on `out`, with engines in memory that run the
@@ -28,18 +30,19 @@ use std::thread::Threads;
 ///
 /// | status | comes | line on `err` |
 /// |---|---|---|
-/// | 0 to 199 | the program exited so, or came to its end (0); all packets are shown (0); the script or the list was played (0); the numbers are printed (0) | none |
+/// | 0 to 199 | the program exited so, or came to its end (0); all packets are shown (0); the script or the list was played (0); the numbers are printed (0); the record is honest (0) | none |
 /// | 200 | the words ask for nothing | `usage` |
 /// | 201 | a file is too long or no program | `bad source NAME REASON NUMBER` |
 /// | 202 | the shelf failed, or lacks a file | `shelf failed NAME`, `no file NAME` |
 /// | 203 | an output failed | `output failed` |
-/// | 204 | a line is not in the grammar of scripts, or of lists of events; N is the first, or 0 where the file is too long | `bad script line N` |
+/// | 204 | a line is not in the grammar of scripts, of lists of events, or of records; N is the first, or 0 where the file is too long | `bad script line N` |
 /// | 205 | line N of the script wants W, and F is found, or nothing | `differs line N wanted W found F` |
 /// | 206 | the input of `show` ended inside a frame, or the link of `ide` before a packet that was awaited | `peer ended` |
 /// | 207 | bytes stand in no command's or packet's place, a text is no packet, or too many came | `bad packet offset N` |
 /// | 208 | the input or a dial failed, no link came, or it failed; of `proxy` a gate or no thread was had | `network failed` |
 /// | 209 | out of memory | `out of memory` |
 /// | 210 | a command stopped the program before its end | `stopped by the IDE` |
+/// | 211 | a record tells something else than its session does, on the line that is printed | none |
 /// | 255 | the program could not go on, or would have had more moments than N | `fatal KIND in NAME on line N`, `bound reached after N steps` |
 ///
 /// It waits in the calls of `input`, of `net`, of a gate and of a link, and for threads of `proxy`. `soak`, `proxy` and

@@ -1,5 +1,5 @@
 -- What the matches of a command hold says what is asked for.
-use Rattle.std.proofs.Common.{◌≡◌, ℕ, ◌≤◌, ◌-◌, List, [], ◌∷◌, ◌++◌, length, map, drop, Option, Some, None, Box, refl, sym, ap, ap₂, ◌∙◌, subst, arith, codes, String, string_bytes, Global}
+use Rattle.std.proofs.Common.{◌≡◌, ℕ, ◌+◌, ◌*◌, ◌≤◌, ◌-◌, List, [], ◌∷◌, ◌++◌, length, map, drop, Option, Some, None, Box, refl, sym, ap, ap₂, ◌∙◌, subst, arith, codes, String, string_bytes, Global}
 use Rattle.std.specs.Prelude.{get_or, option_and_then}
 use Rattle.std.specs.Option.{option_map, option_map_or}
 use Rattle.std.proofs.lemmas.List.{drop-map, length-append, length-map}
@@ -11,10 +11,10 @@ use Rattle.clap.specs.declared.parser.matches.ArgMatches.TheViews.{out-ArgMatche
 use Rattle.clap.specs.declared.parser.matches.SubCommand.{SubCommand}
 use Rattle.clap.specs.Walk.{Row, Text, first_of}
 use Rattle.dp_value.specs.Decimals.{decimal_in}
-use Rattle.dp_words.specs.Words.{Address, AreFileWords, Invocation, IsFileWord, IsHostWord, IsInvocation, IsSession, Task, run, talk, engine, ide, replay, soak, proxy, show, Service, invocation_of, port_of, seed_limit, served_count_of, session_count_of}
-use Rattle.dp_words.specs.inner.Given.{Given, engine_given, ide_given, proxy_given, replay_given, run_given, show_given, soak_given, talk_given, requested, bound_given, bound_in, bounded, files_in, first_in, name_in, rows_in, words_in, are_plain_in}
+use Rattle.dp_words.specs.Words.{Address, AreFileWords, Invocation, IsFileWord, IsHostWord, IsInvocation, IsSession, Task, run, talk, tape, audit, engine, ide, replay, soak, proxy, show, Service, invocation_of, port_of, seed_limit, served_count_of, session_count_of}
+use Rattle.dp_words.specs.inner.Given.{Given, engine_given, ide_given, proxy_given, replay_given, run_given, show_given, soak_given, talk_given, tape_given, audit_given, requested, bound_given, bound_in, bounded, files_in, first_in, name_in, rows_in, words_in, are_plain_in}
 use Rattle.dp_words.specs.inner.Rows.{AreRows, IsGiven, count_in, program_in}
-use Rattle.dp_words.proofs.Readings.{invoked, named, name_of}
+use Rattle.dp_words.proofs.CommandReadings.{invoked, named, name_of}
 
 -- ---- what the rows hold
 
@@ -24,9 +24,17 @@ count_said (run_given None (f ∷ fs)) = refl
 count_said (run_given (Some n) []) = refl
 count_said (run_given (Some n) (f ∷ fs)) = refl
 count_said (talk_given None key []) = refl
+count_said (tape_given None key []) = refl
+count_said (audit_given None key []) = refl
 count_said (talk_given None key (f ∷ fs)) = refl
+count_said (tape_given None key (f ∷ fs)) = refl
+count_said (audit_given None key (f ∷ fs)) = refl
 count_said (talk_given (Some n) key []) = refl
+count_said (tape_given (Some n) key []) = refl
+count_said (audit_given (Some n) key []) = refl
 count_said (talk_given (Some n) key (f ∷ fs)) = refl
+count_said (tape_given (Some n) key (f ∷ fs)) = refl
+count_said (audit_given (Some n) key (f ∷ fs)) = refl
 count_said (engine_given None host port key []) = refl
 count_said (engine_given None host port key (f ∷ fs)) = refl
 count_said (engine_given (Some n) host port key []) = refl
@@ -46,9 +54,17 @@ bound_said (run_given None (f ∷ fs)) = refl
 bound_said (run_given (Some n) []) = refl
 bound_said (run_given (Some n) (f ∷ fs)) = refl
 bound_said (talk_given None key []) = refl
+bound_said (tape_given None key []) = refl
+bound_said (audit_given None key []) = refl
 bound_said (talk_given None key (f ∷ fs)) = refl
+bound_said (tape_given None key (f ∷ fs)) = refl
+bound_said (audit_given None key (f ∷ fs)) = refl
 bound_said (talk_given (Some n) key []) = refl
+bound_said (tape_given (Some n) key []) = refl
+bound_said (audit_given (Some n) key []) = refl
 bound_said (talk_given (Some n) key (f ∷ fs)) = refl
+bound_said (tape_given (Some n) key (f ∷ fs)) = refl
+bound_said (audit_given (Some n) key (f ∷ fs)) = refl
 bound_said (engine_given None host port key []) = refl
 bound_said (engine_given None host port key (f ∷ fs)) = refl
 bound_said (engine_given (Some n) host port key []) = refl
@@ -62,10 +78,20 @@ bound_said (soak_given count seed) = refl
 bound_said (proxy_given ides engines registrations sessions) = refl
 bound_said show_given = refl
 
-key_of_talk : (bound : Option Text) (key : Text) (files : List Text)
+pub key_of_talk : (bound : Option Text) (key : Text) (files : List Text)
     → first_of (codes "KEY") (rows_in (talk_given bound key files)) ≡ Some key
 key_of_talk None key files = refl
 key_of_talk (Some n) key files = refl
+
+pub key_of_tape : (bound : Option Text) (key : Text) (files : List Text)
+    → first_of (codes "KEY") (rows_in (tape_given bound key files)) ≡ Some key
+key_of_tape None key files = refl
+key_of_tape (Some n) key files = refl
+
+pub key_of_audit : (bound : Option Text) (key : Text) (files : List Text)
+    → first_of (codes "KEY") (rows_in (audit_given bound key files)) ≡ Some key
+key_of_audit None key files = refl
+key_of_audit (Some n) key files = refl
 
 events_of_replay : (bound : Option Text) (events : Text) (files : List Text)
     → first_of (codes "EVENTS") (rows_in (replay_given bound events files)) ≡ Some events
@@ -113,7 +139,11 @@ front_is : (g : Given) → words_in g ≡ front_of g ++ files_in g
 front_is (run_given None files) = refl
 front_is (run_given (Some n) files) = refl
 front_is (talk_given None key files) = refl
+front_is (tape_given None key files) = refl
+front_is (audit_given None key files) = refl
 front_is (talk_given (Some n) key files) = refl
+front_is (tape_given (Some n) key files) = refl
+front_is (audit_given (Some n) key files) = refl
 front_is (engine_given None host port key files) = refl
 front_is (engine_given (Some n) host port key files) = refl
 front_is (replay_given None events files) = refl
@@ -153,7 +183,8 @@ module _ (words : List (String Global)) (name : Text) (rows : List Row) (i : IsG
 -- ---- the bound and the names
 
 -- a program with one more name in front, or one less
-longer : (bound : Option Text) (name : Text) (names : List Text) (ask : Invocation) → requested bound names ≡ Some ask
+pub longer : (bound : Option Text) (name : Text) (names : List Text) (ask : Invocation)
+    → requested bound names ≡ Some ask
     → requested bound (name ∷ names) ≡ Some (record { bound = ask.bound; names = name ∷ ask.names })
 longer bound name names ask e = by (bound_given bound) e where
   by : (o : Option ℕ) → option_map {U = Invocation} (λ (n : ℕ). record { bound = n; names = names }) o ≡ Some ask
@@ -163,7 +194,7 @@ longer bound name names ask e = by (bound_given bound) e where
   by (Some n) some =
       ap (option_map {U = Invocation} (λ (a : Invocation). record { bound = a.bound; names = name ∷ a.names })) some
 
-shorter : (bound : Option Text) (name other : Text) (names : List Text) (ask : Invocation)
+pub shorter : (bound : Option Text) (name other : Text) (names : List Text) (ask : Invocation)
     → requested bound (name ∷ names) ≡ Some (record { bound = ask.bound; names = other ∷ ask.names })
     → (name ≡ other) × (requested bound names ≡ Some ask)
 shorter bound name other names ask e = by (bound_given bound) e where
@@ -176,13 +207,14 @@ shorter bound name other names ask e = by (bound_given bound) e where
     ap (option_map {U = Invocation} (λ (a : Invocation). record { bound = a.bound; names = drop 1 a.names })) some,
   )
 
--- no two names have the same second letter
-abbrev letter : Text → ℕ
-letter [] = 0
-letter (a ∷ []) = a
-letter (a ∷ b ∷ more) = b
+-- no two names have the same second and third letter
+abbrev pub letters : Text → ℕ
+letters [] = 0
+letters (a ∷ []) = 0
+letters (a ∷ b ∷ []) = 0
+letters (a ∷ b ∷ c ∷ more) = 256 * b + c
 
-the_same : {A : Type 0} (x y : A) → Some x ≡ Some y → x ≡ y
+pub the_same : {A : Type 0} (x y : A) → Some x ≡ Some y → x ≡ y
 the_same x y e = ap (λ o. option_map_or (λ a. a) o x) e
 
 -- the words behind the command
@@ -195,37 +227,37 @@ behind_is words behind other name p q = ap (λ (l : List Text). drop 1 l) (sym p
 module _ (words : List (String Global)) (name : Text) (rows : List Row) (i : IsGiven (map string_bytes words) name
     rows)
   where
-    abbrev all : List Text
+    abbrev pub all : List Text
     all = map string_bytes words
 
     -- another command is not given
-    differs : (known : Text) (g : Given) → i.given ≡ g → name ≡ known → letter known ≡ letter (name_in g)
-    differs known g at is = ap letter (sym is ∙ i.name_is ∙ ap name_in at)
+    pub differs : (known : Text) (g : Given) → i.given ≡ g → name ≡ known → letters known ≡ letters (name_in g)
+    differs known g at is = ap letters (sym is ∙ i.name_is ∙ ap name_in at)
 
     -- nor asked for
-    clashes : (known : Text) (task : Task) → name ≡ known
-        → IsInvocation all task → letter known ≡ letter (name_of task)
+    pub clashes : (known : Text) (task : Task) → name ≡ known
+        → IsInvocation all task → letters known ≡ letters (name_of task)
     clashes known task is asks =
-        ap letter (sym is ∙ i.name_is ∙ ap (λ (l : List Text). get_or l 0 []) (sym i.words_are ∙ (named all task
+        ap letters (sym is ∙ i.name_is ∙ ap (λ (l : List Text). get_or l 0 []) (sym i.words_are ∙ (named all task
         asks).1))
 
     module _ (g : Given) (at : i.given ≡ g) where
-      words_at : all ≡ words_in g
+      pub words_at : all ≡ words_in g
       words_at = i.words_are ∙ ap words_in at
 
-      rows_at : rows ≡ rows_in g
+      pub rows_at : rows ≡ rows_in g
       rows_at = i.rows_are ∙ ap rows_in at
 
-      program_at : program_in rows words ≡ requested (bound_in g) (files_in g)
+      pub program_at : program_in rows words ≡ requested (bound_in g) (files_in g)
       program_at = program_is words name rows i ∙ ap (λ (x : Given). requested (bound_in x) (files_in x)) at
 
-      invoked_at : invocation_of (bounded (bound_in g) (first_in g ++ files_in g))
+      pub invoked_at : invocation_of (bounded (bound_in g) (first_in g ++ files_in g))
           ≡ requested (bound_in g) (first_in g ++ files_in g)
       invoked_at =
           invoked (bound_in g) (first_in g ++ files_in g) (ap (λ (x : Given). are_plain_in x) (sym at) ∙ i.plain)
 
       -- what another spelling of the words behind asks for
-      asked_by : (behind : List Text) → all ≡ name_in g ∷ behind
+      pub asked_by : (behind : List Text) → all ≡ name_in g ∷ behind
           → invocation_of behind ≡ requested (bound_in g) (first_in g ++ files_in g)
       asked_by behind is =
           ap invocation_of (behind_is all behind (bounded (bound_in g) (first_in g ++ files_in g)) (name_in g) is
@@ -247,6 +279,8 @@ module _ (words : List (String Global)) (name : Text) (rows : List Row) (i : IsG
             follows = record { invocation = invoked_at g at ∙ sym (program_at g at) ∙ program; files = files_named };
           }
       by (talk_given x0 x1 x2) at = absurd (omega (arith, differs (codes "run") (talk_given x0 x1 x2) at is))
+      by (tape_given x0 x1 x2) at = absurd (omega (arith, differs (codes "run") (tape_given x0 x1 x2) at is))
+      by (audit_given x0 x1 x2) at = absurd (omega (arith, differs (codes "run") (audit_given x0 x1 x2) at is))
       by (engine_given x0 x1 x2 x3 x4) at =
           absurd (omega (arith, differs (codes "run") (engine_given x0 x1 x2 x3 x4) at is))
       by (ide_given x0 x1) at = absurd (omega (arith, differs (codes "run") (ide_given x0 x1) at is))
@@ -270,6 +304,8 @@ module _ (words : List (String Global)) (name : Text) (rows : List Row) (i : IsG
             none ask (program_at g at ∙ sym (asked_by g at asks.behind asks.words_are) ∙ asks.follows.invocation)
             asks.follows.files
         by_task (talk k asking) asks = omega (arith, clashes (codes "run") (talk k asking) is asks)
+        by_task (tape k asking) asks = omega (arith, clashes (codes "run") (tape k asking) is asks)
+        by_task (audit k asking) asks = omega (arith, clashes (codes "run") (audit k asking) is asks)
         by_task (engine a k asking) asks = omega (arith, clashes (codes "run") (engine a k asking) is asks)
         by_task (ide n s) asks = omega (arith, clashes (codes "run") (ide n s) is asks)
         by_task (replay e asking) asks = omega (arith, clashes (codes "run") (replay e asking) is asks)
@@ -277,6 +313,8 @@ module _ (words : List (String Global)) (name : Text) (rows : List Row) (i : IsG
         by_task (proxy service) asks = omega (arith, clashes (codes "run") (proxy service) is asks)
         by_task show asks = omega (arith, clashes (codes "run") show is asks)
       by (talk_given x0 x1 x2) at = absurd (omega (arith, differs (codes "run") (talk_given x0 x1 x2) at is))
+      by (tape_given x0 x1 x2) at = absurd (omega (arith, differs (codes "run") (tape_given x0 x1 x2) at is))
+      by (audit_given x0 x1 x2) at = absurd (omega (arith, differs (codes "run") (audit_given x0 x1 x2) at is))
       by (engine_given x0 x1 x2 x3 x4) at =
           absurd (omega (arith, differs (codes "run") (engine_given x0 x1 x2 x3 x4) at is))
       by (ide_given x0 x1) at = absurd (omega (arith, differs (codes "run") (ide_given x0 x1) at is))
@@ -285,68 +323,6 @@ module _ (words : List (String Global)) (name : Text) (rows : List Row) (i : IsG
       by (proxy_given x0 x1 x2 x3) at =
           absurd (omega (arith, differs (codes "run") (proxy_given x0 x1 x2 x3) at is))
       by show_given at = absurd (omega (arith, differs (codes "run") show_given at is))
-
-    -- ---- `talk`
-
-    pub talk_found : name ≡ codes "talk" → (key : Text) (ask : Invocation) → first_of (codes "KEY") rows ≡ Some key
-        → program_in rows words ≡ Some ask → IsSession key ask → IsInvocation all (talk key ask)
-    talk_found is key ask key_is program session = by i.given refl where
-      by : (g : Given) → i.given ≡ g → IsInvocation all (talk key ask)
-      by (talk_given bound k files) at =
-          let g = talk_given bound k files in
-          let same : k ≡ key = the_same k key
-          (sym (key_of_talk bound k files) ∙ ap (first_of (codes "KEY")) (sym (rows_at g at)) ∙ key_is) in
-          subst (λ (x : Text). IsInvocation all (talk x ask)) same
-          (record {
-            behind = bounded bound (k ∷ files);
-            words_are = words_at g at;
-            speaks = record {
-              invocation = invoked_at g at ∙ longer bound k files ask (sym (program_at g at) ∙ program);
-              session = subst (λ (x : Text). IsSession x ask) (sym same) session;
-            };
-          })
-      by (run_given x0 x1) at = absurd (omega (arith, differs (codes "talk") (run_given x0 x1) at is))
-      by (engine_given x0 x1 x2 x3 x4) at =
-          absurd (omega (arith, differs (codes "talk") (engine_given x0 x1 x2 x3 x4) at is))
-      by (ide_given x0 x1) at = absurd (omega (arith, differs (codes "talk") (ide_given x0 x1) at is))
-      by (replay_given x0 x1 x2) at = absurd (omega (arith, differs (codes "talk") (replay_given x0 x1 x2) at is))
-      by (soak_given x0 x1) at = absurd (omega (arith, differs (codes "talk") (soak_given x0 x1) at is))
-      by (proxy_given x0 x1 x2 x3) at =
-          absurd (omega (arith, differs (codes "talk") (proxy_given x0 x1 x2 x3) at is))
-      by show_given at = absurd (omega (arith, differs (codes "talk") show_given at is))
-
-    pub talk_none : name ≡ codes "talk"
-        → ((key : Text) (ask : Invocation) → first_of (codes "KEY") rows ≡ Some key → program_in rows words ≡ Some ask
-        → IsSession key ask → ⊥)
-        → (task : Task) → IsInvocation all task → ⊥
-    talk_none is none = by i.given refl where
-      by : (g : Given) → i.given ≡ g → (task : Task) → IsInvocation all task → ⊥
-      by (talk_given bound key files) at = by_task where
-        g : Given
-        g = talk_given bound key files
-
-        by_task : (task : Task) → IsInvocation all task → ⊥
-        by_task (talk k ask) asks =
-            let one = shorter bound key k files ask
-            (sym (asked_by g at asks.behind asks.words_are) ∙ asks.speaks.invocation) in
-            none key ask (ap (first_of (codes "KEY")) (rows_at g at) ∙ key_of_talk bound key files)
-            (program_at g at ∙ one.1) (subst (λ (x : Text). IsSession x ask) (sym one.0) asks.speaks.session)
-        by_task (run asking) asks = omega (arith, clashes (codes "talk") (run asking) is asks)
-        by_task (engine a k asking) asks = omega (arith, clashes (codes "talk") (engine a k asking) is asks)
-        by_task (ide n s) asks = omega (arith, clashes (codes "talk") (ide n s) is asks)
-        by_task (replay e asking) asks = omega (arith, clashes (codes "talk") (replay e asking) is asks)
-        by_task (soak n d) asks = omega (arith, clashes (codes "talk") (soak n d) is asks)
-        by_task (proxy service) asks = omega (arith, clashes (codes "talk") (proxy service) is asks)
-        by_task show asks = omega (arith, clashes (codes "talk") show is asks)
-      by (run_given x0 x1) at = absurd (omega (arith, differs (codes "talk") (run_given x0 x1) at is))
-      by (engine_given x0 x1 x2 x3 x4) at =
-          absurd (omega (arith, differs (codes "talk") (engine_given x0 x1 x2 x3 x4) at is))
-      by (ide_given x0 x1) at = absurd (omega (arith, differs (codes "talk") (ide_given x0 x1) at is))
-      by (replay_given x0 x1 x2) at = absurd (omega (arith, differs (codes "talk") (replay_given x0 x1 x2) at is))
-      by (soak_given x0 x1) at = absurd (omega (arith, differs (codes "talk") (soak_given x0 x1) at is))
-      by (proxy_given x0 x1 x2 x3) at =
-          absurd (omega (arith, differs (codes "talk") (proxy_given x0 x1 x2 x3) at is))
-      by show_given at = absurd (omega (arith, differs (codes "talk") show_given at is))
 
     -- ---- `engine`
 
@@ -382,6 +358,8 @@ module _ (words : List (String Global)) (name : Text) (rows : List Row) (i : IsG
           }))
       by (run_given x0 x1) at = absurd (omega (arith, differs (codes "engine") (run_given x0 x1) at is))
       by (talk_given x0 x1 x2) at = absurd (omega (arith, differs (codes "engine") (talk_given x0 x1 x2) at is))
+      by (tape_given x0 x1 x2) at = absurd (omega (arith, differs (codes "engine") (tape_given x0 x1 x2) at is))
+      by (audit_given x0 x1 x2) at = absurd (omega (arith, differs (codes "engine") (audit_given x0 x1 x2) at is))
       by (ide_given x0 x1) at = absurd (omega (arith, differs (codes "engine") (ide_given x0 x1) at is))
       by (replay_given x0 x1 x2) at = absurd (omega (arith, differs (codes "engine") (replay_given x0 x1 x2) at is))
       by (soak_given x0 x1) at = absurd (omega (arith, differs (codes "engine") (soak_given x0 x1) at is))
@@ -417,6 +395,8 @@ module _ (words : List (String Global)) (name : Text) (rows : List Row) (i : IsG
             (subst (λ (x : Text). IsSession x ask) (sym three.0) d.session)
         by_task (run asking) asks = omega (arith, clashes (codes "engine") (run asking) is asks)
         by_task (talk k asking) asks = omega (arith, clashes (codes "engine") (talk k asking) is asks)
+        by_task (tape k asking) asks = omega (arith, clashes (codes "engine") (tape k asking) is asks)
+        by_task (audit k asking) asks = omega (arith, clashes (codes "engine") (audit k asking) is asks)
         by_task (ide n s) asks = omega (arith, clashes (codes "engine") (ide n s) is asks)
         by_task (replay e asking) asks = omega (arith, clashes (codes "engine") (replay e asking) is asks)
         by_task (soak n d) asks = omega (arith, clashes (codes "engine") (soak n d) is asks)
@@ -424,6 +404,8 @@ module _ (words : List (String Global)) (name : Text) (rows : List Row) (i : IsG
         by_task show asks = omega (arith, clashes (codes "engine") show is asks)
       by (run_given x0 x1) at = absurd (omega (arith, differs (codes "engine") (run_given x0 x1) at is))
       by (talk_given x0 x1 x2) at = absurd (omega (arith, differs (codes "engine") (talk_given x0 x1 x2) at is))
+      by (tape_given x0 x1 x2) at = absurd (omega (arith, differs (codes "engine") (tape_given x0 x1 x2) at is))
+      by (audit_given x0 x1 x2) at = absurd (omega (arith, differs (codes "engine") (audit_given x0 x1 x2) at is))
       by (ide_given x0 x1) at = absurd (omega (arith, differs (codes "engine") (ide_given x0 x1) at is))
       by (replay_given x0 x1 x2) at = absurd (omega (arith, differs (codes "engine") (replay_given x0 x1 x2) at is))
       by (soak_given x0 x1) at = absurd (omega (arith, differs (codes "engine") (soak_given x0 x1) at is))
@@ -454,6 +436,8 @@ module _ (words : List (String Global)) (name : Text) (rows : List Row) (i : IsG
           })
       by (run_given x0 x1) at = absurd (omega (arith, differs (codes "ide") (run_given x0 x1) at is))
       by (talk_given x0 x1 x2) at = absurd (omega (arith, differs (codes "ide") (talk_given x0 x1 x2) at is))
+      by (tape_given x0 x1 x2) at = absurd (omega (arith, differs (codes "ide") (tape_given x0 x1 x2) at is))
+      by (audit_given x0 x1 x2) at = absurd (omega (arith, differs (codes "ide") (audit_given x0 x1 x2) at is))
       by (engine_given x0 x1 x2 x3 x4) at =
           absurd (omega (arith, differs (codes "ide") (engine_given x0 x1 x2 x3 x4) at is))
       by (replay_given x0 x1 x2) at = absurd (omega (arith, differs (codes "ide") (replay_given x0 x1 x2) at is))
@@ -484,6 +468,8 @@ module _ (words : List (String Global)) (name : Text) (rows : List Row) (i : IsG
             (ap port_of same_port ∙ asks.is_port) (subst IsFileWord (sym same_script) asks.is_script)
         by_task (run asking) asks = omega (arith, clashes (codes "ide") (run asking) is asks)
         by_task (talk k asking) asks = omega (arith, clashes (codes "ide") (talk k asking) is asks)
+        by_task (tape k asking) asks = omega (arith, clashes (codes "ide") (tape k asking) is asks)
+        by_task (audit k asking) asks = omega (arith, clashes (codes "ide") (audit k asking) is asks)
         by_task (engine a k asking) asks = omega (arith, clashes (codes "ide") (engine a k asking) is asks)
         by_task (replay e asking) asks = omega (arith, clashes (codes "ide") (replay e asking) is asks)
         by_task (soak n d) asks = omega (arith, clashes (codes "ide") (soak n d) is asks)
@@ -491,6 +477,8 @@ module _ (words : List (String Global)) (name : Text) (rows : List Row) (i : IsG
         by_task show asks = omega (arith, clashes (codes "ide") show is asks)
       by (run_given x0 x1) at = absurd (omega (arith, differs (codes "ide") (run_given x0 x1) at is))
       by (talk_given x0 x1 x2) at = absurd (omega (arith, differs (codes "ide") (talk_given x0 x1 x2) at is))
+      by (tape_given x0 x1 x2) at = absurd (omega (arith, differs (codes "ide") (tape_given x0 x1 x2) at is))
+      by (audit_given x0 x1 x2) at = absurd (omega (arith, differs (codes "ide") (audit_given x0 x1 x2) at is))
       by (engine_given x0 x1 x2 x3 x4) at =
           absurd (omega (arith, differs (codes "ide") (engine_given x0 x1 x2 x3 x4) at is))
       by (replay_given x0 x1 x2) at = absurd (omega (arith, differs (codes "ide") (replay_given x0 x1 x2) at is))
@@ -523,6 +511,8 @@ module _ (words : List (String Global)) (name : Text) (rows : List Row) (i : IsG
           })
       by (run_given x0 x1) at = absurd (omega (arith, differs (codes "replay") (run_given x0 x1) at is))
       by (talk_given x0 x1 x2) at = absurd (omega (arith, differs (codes "replay") (talk_given x0 x1 x2) at is))
+      by (tape_given x0 x1 x2) at = absurd (omega (arith, differs (codes "replay") (tape_given x0 x1 x2) at is))
+      by (audit_given x0 x1 x2) at = absurd (omega (arith, differs (codes "replay") (audit_given x0 x1 x2) at is))
       by (engine_given x0 x1 x2 x3 x4) at =
           absurd (omega (arith, differs (codes "replay") (engine_given x0 x1 x2 x3 x4) at is))
       by (ide_given x0 x1) at = absurd (omega (arith, differs (codes "replay") (ide_given x0 x1) at is))
@@ -550,6 +540,8 @@ module _ (words : List (String Global)) (name : Text) (rows : List Row) (i : IsG
             (program_at g at ∙ one.1) (subst IsFileWord (sym one.0) r.is_events) r.files
         by_task (run asking) asks = omega (arith, clashes (codes "replay") (run asking) is asks)
         by_task (talk k asking) asks = omega (arith, clashes (codes "replay") (talk k asking) is asks)
+        by_task (tape k asking) asks = omega (arith, clashes (codes "replay") (tape k asking) is asks)
+        by_task (audit k asking) asks = omega (arith, clashes (codes "replay") (audit k asking) is asks)
         by_task (engine a k asking) asks = omega (arith, clashes (codes "replay") (engine a k asking) is asks)
         by_task (ide n s) asks = omega (arith, clashes (codes "replay") (ide n s) is asks)
         by_task (soak n d) asks = omega (arith, clashes (codes "replay") (soak n d) is asks)
@@ -557,6 +549,8 @@ module _ (words : List (String Global)) (name : Text) (rows : List Row) (i : IsG
         by_task show asks = omega (arith, clashes (codes "replay") show is asks)
       by (run_given x0 x1) at = absurd (omega (arith, differs (codes "replay") (run_given x0 x1) at is))
       by (talk_given x0 x1 x2) at = absurd (omega (arith, differs (codes "replay") (talk_given x0 x1 x2) at is))
+      by (tape_given x0 x1 x2) at = absurd (omega (arith, differs (codes "replay") (tape_given x0 x1 x2) at is))
+      by (audit_given x0 x1 x2) at = absurd (omega (arith, differs (codes "replay") (audit_given x0 x1 x2) at is))
       by (engine_given x0 x1 x2 x3 x4) at =
           absurd (omega (arith, differs (codes "replay") (engine_given x0 x1 x2 x3 x4) at is))
       by (ide_given x0 x1) at = absurd (omega (arith, differs (codes "replay") (ide_given x0 x1) at is))
@@ -586,6 +580,8 @@ module _ (words : List (String Global)) (name : Text) (rows : List Row) (i : IsG
           }
       by (run_given x0 x1) at = absurd (omega (arith, differs (codes "soak") (run_given x0 x1) at is))
       by (talk_given x0 x1 x2) at = absurd (omega (arith, differs (codes "soak") (talk_given x0 x1 x2) at is))
+      by (tape_given x0 x1 x2) at = absurd (omega (arith, differs (codes "soak") (tape_given x0 x1 x2) at is))
+      by (audit_given x0 x1 x2) at = absurd (omega (arith, differs (codes "soak") (audit_given x0 x1 x2) at is))
       by (engine_given x0 x1 x2 x3 x4) at =
           absurd (omega (arith, differs (codes "soak") (engine_given x0 x1 x2 x3 x4) at is))
       by (ide_given x0 x1) at = absurd (omega (arith, differs (codes "soak") (ide_given x0 x1) at is))
@@ -616,6 +612,8 @@ module _ (words : List (String Global)) (name : Text) (rows : List Row) (i : IsG
             (ap (λ (l : List Text). decimal_in seed_limit (get_or l 1 [])) same ∙ asks.is_seed)
         by_task (run asking) asks = omega (arith, clashes (codes "soak") (run asking) is asks)
         by_task (talk k asking) asks = omega (arith, clashes (codes "soak") (talk k asking) is asks)
+        by_task (tape k asking) asks = omega (arith, clashes (codes "soak") (tape k asking) is asks)
+        by_task (audit k asking) asks = omega (arith, clashes (codes "soak") (audit k asking) is asks)
         by_task (engine a k asking) asks = omega (arith, clashes (codes "soak") (engine a k asking) is asks)
         by_task (ide n s) asks = omega (arith, clashes (codes "soak") (ide n s) is asks)
         by_task (replay e asking) asks = omega (arith, clashes (codes "soak") (replay e asking) is asks)
@@ -623,6 +621,8 @@ module _ (words : List (String Global)) (name : Text) (rows : List Row) (i : IsG
         by_task show asks = omega (arith, clashes (codes "soak") show is asks)
       by (run_given x0 x1) at = absurd (omega (arith, differs (codes "soak") (run_given x0 x1) at is))
       by (talk_given x0 x1 x2) at = absurd (omega (arith, differs (codes "soak") (talk_given x0 x1 x2) at is))
+      by (tape_given x0 x1 x2) at = absurd (omega (arith, differs (codes "soak") (tape_given x0 x1 x2) at is))
+      by (audit_given x0 x1 x2) at = absurd (omega (arith, differs (codes "soak") (audit_given x0 x1 x2) at is))
       by (engine_given x0 x1 x2 x3 x4) at =
           absurd (omega (arith, differs (codes "soak") (engine_given x0 x1 x2 x3 x4) at is))
       by (ide_given x0 x1) at = absurd (omega (arith, differs (codes "soak") (ide_given x0 x1) at is))
@@ -660,6 +660,8 @@ module _ (words : List (String Global)) (name : Text) (rows : List Row) (i : IsG
           }
       by (run_given x0 x1) at = absurd (omega (arith, differs (codes "proxy") (run_given x0 x1) at is))
       by (talk_given x0 x1 x2) at = absurd (omega (arith, differs (codes "proxy") (talk_given x0 x1 x2) at is))
+      by (tape_given x0 x1 x2) at = absurd (omega (arith, differs (codes "proxy") (tape_given x0 x1 x2) at is))
+      by (audit_given x0 x1 x2) at = absurd (omega (arith, differs (codes "proxy") (audit_given x0 x1 x2) at is))
       by (engine_given x0 x1 x2 x3 x4) at =
           absurd (omega (arith, differs (codes "proxy") (engine_given x0 x1 x2 x3 x4) at is))
       by (ide_given x0 x1) at = absurd (omega (arith, differs (codes "proxy") (ide_given x0 x1) at is))
@@ -696,6 +698,8 @@ module _ (words : List (String Global)) (name : Text) (rows : List Row) (i : IsG
             (ap (λ (l : List Text). served_count_of (get_or l 3 [])) same ∙ asks.is_sessions)
         by_task (run asking) asks = omega (arith, clashes (codes "proxy") (run asking) is asks)
         by_task (talk k asking) asks = omega (arith, clashes (codes "proxy") (talk k asking) is asks)
+        by_task (tape k asking) asks = omega (arith, clashes (codes "proxy") (tape k asking) is asks)
+        by_task (audit k asking) asks = omega (arith, clashes (codes "proxy") (audit k asking) is asks)
         by_task (engine a k asking) asks = omega (arith, clashes (codes "proxy") (engine a k asking) is asks)
         by_task (ide n s) asks = omega (arith, clashes (codes "proxy") (ide n s) is asks)
         by_task (replay e asking) asks = omega (arith, clashes (codes "proxy") (replay e asking) is asks)
@@ -703,6 +707,8 @@ module _ (words : List (String Global)) (name : Text) (rows : List Row) (i : IsG
         by_task show asks = omega (arith, clashes (codes "proxy") show is asks)
       by (run_given x0 x1) at = absurd (omega (arith, differs (codes "proxy") (run_given x0 x1) at is))
       by (talk_given x0 x1 x2) at = absurd (omega (arith, differs (codes "proxy") (talk_given x0 x1 x2) at is))
+      by (tape_given x0 x1 x2) at = absurd (omega (arith, differs (codes "proxy") (tape_given x0 x1 x2) at is))
+      by (audit_given x0 x1 x2) at = absurd (omega (arith, differs (codes "proxy") (audit_given x0 x1 x2) at is))
       by (engine_given x0 x1 x2 x3 x4) at =
           absurd (omega (arith, differs (codes "proxy") (engine_given x0 x1 x2 x3 x4) at is))
       by (ide_given x0 x1) at = absurd (omega (arith, differs (codes "proxy") (ide_given x0 x1) at is))
@@ -712,14 +718,17 @@ module _ (words : List (String Global)) (name : Text) (rows : List Row) (i : IsG
 
     -- ---- `show`: no other name is left
 
-    pub show_found : (name ≡ codes "run" → ⊥) → (name ≡ codes "talk" → ⊥) → (name ≡ codes "engine" → ⊥)
+    pub show_found : (name ≡ codes "run" → ⊥) → (name ≡ codes "talk" → ⊥) → (name ≡ codes "tape" → ⊥)
+        → (name ≡ codes "audit" → ⊥) → (name ≡ codes "engine" → ⊥)
         → (name ≡ codes "ide" → ⊥) → (name ≡ codes "replay" → ⊥) → (name ≡ codes "soak" → ⊥)
         → (name ≡ codes "proxy" → ⊥) → IsInvocation all show
-    show_found a b c d e f p = by i.given refl where
+    show_found a b t u c d e f p = by i.given refl where
       by : (g : Given) → i.given ≡ g → IsInvocation all show
       by show_given at = words_at show_given at
       by (run_given bound files) at = absurd (a (i.name_is ∙ ap name_in at))
       by (talk_given bound key files) at = absurd (b (i.name_is ∙ ap name_in at))
+      by (tape_given bound key files) at = absurd (t (i.name_is ∙ ap name_in at))
+      by (audit_given bound key files) at = absurd (u (i.name_is ∙ ap name_in at))
       by (engine_given bound host port key files) at = absurd (c (i.name_is ∙ ap name_in at))
       by (ide_given port script) at = absurd (d (i.name_is ∙ ap name_in at))
       by (replay_given bound events files) at = absurd (e (i.name_is ∙ ap name_in at))

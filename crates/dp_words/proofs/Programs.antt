@@ -75,6 +75,14 @@ pub talk_known : Known (codes "talk") (P (codes "talk") talk_words)
 unfolding clap_on_literals
 talk_known = record { met_so = refl; taken = refl; found = λ b. refl; rows = λ b. refl }
 
+pub tape_known : Known (codes "tape") (P (codes "tape") talk_words)
+unfolding clap_on_literals
+tape_known = record { met_so = refl; taken = refl; found = λ b. refl; rows = λ b. refl }
+
+pub audit_known : Known (codes "audit") (P (codes "audit") talk_words)
+unfolding clap_on_literals
+audit_known = record { met_so = refl; taken = refl; found = λ b. refl; rows = λ b. refl }
+
 pub engine_known : Known (codes "engine") (P (codes "engine") engine_words)
 unfolding clap_on_literals
 engine_known = record { met_so = refl; taken = refl; found = λ b. refl; rows = λ b. refl }

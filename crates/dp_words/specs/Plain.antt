@@ -12,7 +12,8 @@ is_plain (byte ∷ word) = not (is_option (byte ∷ word))
 -- a command that may have a bound
 abbrev pub has_bound : List ℕ → Bool
 has_bound name =
-    bytes_eq name (codes "run") || bytes_eq name (codes "talk") || bytes_eq name (codes "engine")
+    bytes_eq name (codes "run") || bytes_eq name (codes "talk") || bytes_eq name (codes "tape")
+    || bytes_eq name (codes "audit") || bytes_eq name (codes "engine")
     || bytes_eq name (codes "replay")
 
 -- a bound stands directly behind the command, and before a word

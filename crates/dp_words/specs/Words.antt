@@ -91,7 +91,7 @@ pub record IsSession (key : List ℕ) (ask : Invocation) : Type 0 where
   pub is_none : is_option key ≡ false
   pub files : AreFileWords ask.names
 
--- what stands behind `talk`
+-- what stands behind `talk`, `tape` and `audit`
 pub record TalkWords (words : List (List ℕ)) (key : List ℕ) (ask : Invocation) : Type 0 where
   pub invocation : invocation_of words
       ≡ Some (record { bound = ask.bound; names = key ∷ ask.names })
@@ -101,6 +101,18 @@ pub record TalkWords (words : List (List ℕ)) (key : List ℕ) (ask : Invocatio
 pub record IsTalk (words : List (List ℕ)) (key : List ℕ) (ask : Invocation) : Type 0 where
   pub behind : List (List ℕ)
   pub words_are : words ≡ codes "talk" ∷ behind
+  pub speaks : TalkWords behind key ask
+
+-- the words are `tape [--bound N] KEY FILE..`
+pub record IsTape (words : List (List ℕ)) (key : List ℕ) (ask : Invocation) : Type 0 where
+  pub behind : List (List ℕ)
+  pub words_are : words ≡ codes "tape" ∷ behind
+  pub speaks : TalkWords behind key ask
+
+-- the words are `audit [--bound N] KEY FILE..`
+pub record IsAudit (words : List (List ℕ)) (key : List ℕ) (ask : Invocation) : Type 0 where
+  pub behind : List (List ℕ)
+  pub words_are : words ≡ codes "audit" ∷ behind
   pub speaks : TalkWords behind key ask
 
 -- a word that is the name or address of a machine, and asks for no option
@@ -208,6 +220,8 @@ pub record IsProxy (words : List (List ℕ)) (service : Service) : Type 0 where
 pub data Task : Type 0 where
   run : Invocation → Task
   talk : (key : List ℕ) → Invocation → Task
+  tape : (key : List ℕ) → Invocation → Task
+  audit : (key : List ℕ) → Invocation → Task
   engine : Address → (key : List ℕ) → Invocation → Task
   ide : (port : ℕ) → (script : List ℕ) → Task
   replay : (events : List ℕ) → Invocation → Task
@@ -219,6 +233,8 @@ pub data Task : Type 0 where
 abbrev pub IsInvocation : List (List ℕ) → Task → Type 0
 IsInvocation words (run ask) = IsRun words ask
 IsInvocation words (talk key ask) = IsTalk words key ask
+IsInvocation words (tape key ask) = IsTape words key ask
+IsInvocation words (audit key ask) = IsAudit words key ask
 IsInvocation words (engine address key ask) = IsEngine words address key ask
 IsInvocation words (ide port script) = IsIde words port script
 IsInvocation words (replay events ask) = IsReplay words events ask
@@ -230,6 +246,8 @@ IsInvocation words show = words ≡ codes "show" ∷ []
 abbrev pub invocation_in : Task → Option Invocation
 invocation_in (run ask) = Some ask
 invocation_in (talk key ask) = Some ask
+invocation_in (tape key ask) = Some ask
+invocation_in (audit key ask) = Some ask
 invocation_in (engine address key ask) = Some ask
 invocation_in (ide port script) = None
 invocation_in (replay events ask) = None

@@ -67,6 +67,24 @@ fn talk<'a>(alloc: Global) -> Result<Command<'a>, AllocError>
         .arg(files(alloc))
 }
 
+/// `tape [--bound N] KEY FILE..`
+fn tape<'a>(alloc: Global) -> Result<Command<'a>, AllocError>
+    ensures { IfOk result (λ c. shape_of c ≡ shape.tape) }
+{
+    bounded(alloc, "tape")?
+        .arg(word(alloc, "KEY"))?
+        .arg(files(alloc))
+}
+
+/// `audit [--bound N] KEY FILE..`
+fn audit<'a>(alloc: Global) -> Result<Command<'a>, AllocError>
+    ensures { IfOk result (λ c. shape_of c ≡ shape.audit) }
+{
+    bounded(alloc, "audit")?
+        .arg(word(alloc, "KEY"))?
+        .arg(files(alloc))
+}
+
 /// `engine [--bound N] HOST PORT KEY FILE..`
 fn engine<'a>(alloc: Global) -> Result<Command<'a>, AllocError>
     ensures { IfOk result (λ c. shape_of c ≡ shape.engine) }
@@ -135,6 +153,8 @@ fn program<'a>(alloc: Global) -> Result<Command<'a>, AllocError>
     settings(alloc)
         .subcommand(run(alloc)?)?
         .subcommand(talk(alloc)?)?
+        .subcommand(tape(alloc)?)?
+        .subcommand(audit(alloc)?)?
         .subcommand(engine(alloc)?)?
         .subcommand(ide(alloc)?)?
         .subcommand(replay(alloc)?)?

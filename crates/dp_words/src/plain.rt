@@ -25,7 +25,12 @@ fn all_plain(words: &[String]) -> bool
 fn has_bound(name: &str) -> bool
     ensures { result ≡ spec.has_bound name.now }
 {
-    name == "run" || name == "talk" || name == "engine" || name == "replay"
+    name == "run"
+        || name == "talk"
+        || name == "tape"
+        || name == "audit"
+        || name == "engine"
+        || name == "replay"
 }
 
 /// Whether a word and others are plain.

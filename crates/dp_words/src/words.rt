@@ -85,6 +85,10 @@ pub enum Command<'a> {
     Run(Program<'a>),
     /// One session over a program.
     Talk(Talk<'a>),
+    /// The record of one session over a program.
+    Tape(Talk<'a>),
+    /// Whether a record of one is honest.
+    Audit(Talk<'a>),
     /// One session over a link.
     Engine(Engine<'a>),
     /// A script over a link.
@@ -177,7 +181,7 @@ fn talk_of<'a>(key: &'a str, program: Program<'a>) -> Option<Talk<'a>>
     Some(Talk { key, program })
 }
 
-/// `talk [--bound N] KEY FILE..`
+/// `talk [--bound N] KEY FILE..`, and the same behind `tape` and `audit`.
 fn read_talk<'a>(words: &'a [String], given: &ArgMatches<'a>) -> Option<Talk<'a>>
     requires few { count_in (rows_of (found_of given.now)) ≤ length words.now }
     ensures found { IfSome result (λ t. (first_of (codes "KEY") (rows_of (found_of given.now)) ≡ Some t.key.now)
@@ -406,6 +410,12 @@ fn command_named<'a>(words: &'a [String], name: &str, given: &ArgMatches<'a>) ->
     }
     if name == "talk" {
         return Some(Command::Talk(read_talk(words, given)?));
+    }
+    if name == "tape" {
+        return Some(Command::Tape(read_talk(words, given)?));
+    }
+    if name == "audit" {
+        return Some(Command::Audit(read_talk(words, given)?));
     }
     if name == "engine" {
         return Some(Command::Engine(read_engine(words, given)?));

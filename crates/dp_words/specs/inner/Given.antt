@@ -11,6 +11,8 @@ use Rattle.dp_words.specs.inner.Shapes.{engine_words, ide_words, proxy_words, re
 pub data Given : Type 0 where
   run_given : (bound : Option Text) → (files : List Text) → Given
   talk_given : (bound : Option Text) → (key : Text) → (files : List Text) → Given
+  tape_given : (bound : Option Text) → (key : Text) → (files : List Text) → Given
+  audit_given : (bound : Option Text) → (key : Text) → (files : List Text) → Given
   engine_given : (bound : Option Text) → (host port key : Text) → (files : List Text) → Given
   ide_given : (port script : Text) → Given
   replay_given : (bound : Option Text) → (events : Text) → (files : List Text) → Given
@@ -23,6 +25,8 @@ pub data Given : Type 0 where
 abbrev pub name_in : Given → Text
 name_in (run_given bound files) = codes "run"
 name_in (talk_given bound key files) = codes "talk"
+name_in (tape_given bound key files) = codes "tape"
+name_in (audit_given bound key files) = codes "audit"
 name_in (engine_given bound host port key files) = codes "engine"
 name_in (ide_given port script) = codes "ide"
 name_in (replay_given bound events files) = codes "replay"
@@ -33,6 +37,8 @@ name_in show_given = codes "show"
 abbrev pub bound_in : Given → Option Text
 bound_in (run_given bound files) = bound
 bound_in (talk_given bound key files) = bound
+bound_in (tape_given bound key files) = bound
+bound_in (audit_given bound key files) = bound
 bound_in (engine_given bound host port key files) = bound
 bound_in (ide_given port script) = None
 bound_in (replay_given bound events files) = bound
@@ -44,6 +50,8 @@ bound_in show_given = None
 abbrev pub first_in : Given → List Text
 first_in (run_given bound files) = []
 first_in (talk_given bound key files) = key ∷ []
+first_in (tape_given bound key files) = key ∷ []
+first_in (audit_given bound key files) = key ∷ []
 first_in (engine_given bound host port key files) = host ∷ port ∷ key ∷ []
 first_in (ide_given port script) = port ∷ script ∷ []
 first_in (replay_given bound events files) = events ∷ []
@@ -55,6 +63,8 @@ first_in show_given = []
 abbrev pub files_in : Given → List Text
 files_in (run_given bound files) = files
 files_in (talk_given bound key files) = files
+files_in (tape_given bound key files) = files
+files_in (audit_given bound key files) = files
 files_in (engine_given bound host port key files) = files
 files_in (ide_given port script) = []
 files_in (replay_given bound events files) = files
@@ -111,6 +121,8 @@ files_rows (file ∷ files) = row (codes "FILE") (file ∷ files) ∷ []
 abbrev pub ids_in : Given → List Text
 ids_in (run_given bound files) = []
 ids_in (talk_given bound key files) = talk_words
+ids_in (tape_given bound key files) = talk_words
+ids_in (audit_given bound key files) = talk_words
 ids_in (engine_given bound host port key files) = engine_words
 ids_in (ide_given port script) = ide_words
 ids_in (replay_given bound events files) = replay_words

@@ -70,6 +70,12 @@ run = program_row (codes "run") []
 abbrev pub talk : Shape
 talk = program_row (codes "talk") talk_words
 
+abbrev pub tape : Shape
+tape = program_row (codes "tape") talk_words
+
+abbrev pub audit : Shape
+audit = program_row (codes "audit") talk_words
+
 abbrev pub engine : Shape
 engine = program_row (codes "engine") engine_words
 
@@ -103,5 +109,5 @@ settings = record { top = top; subs = [] }
 abbrev pub program : App
 program = record {
   top = record top { is_leaf = false };
-  subs = run ∷ talk ∷ engine ∷ ide ∷ replay ∷ soak ∷ proxy ∷ show ∷ [];
+  subs = run ∷ talk ∷ tape ∷ audit ∷ engine ∷ ide ∷ replay ∷ soak ∷ proxy ∷ show ∷ [];
 }

@@ -4,7 +4,8 @@ use Rattle.clap.specs.Kinds.{Kinds, HasKind}
 use Rattle.clap.specs.Simple.{App, is_simple, subcommand_of}
 use Rattle.dp_words.proofs.Leaves.{HasFault}
 use Rattle.dp_words.proofs.Programs.{free, simple}
-use Rattle.dp_words.proofs.Readings.{IsRead, IsUnread, reads}
+use Rattle.dp_words.proofs.CommandReadings.{IsRead, IsUnread}
+use Rattle.dp_words.proofs.Readings.{reads}
 use Rattle.dp_words.proofs.parser.parse.Goals as goal
 
 pub returns-in-Ok-clause-found : goal.returns-in-Ok-clause-found

@@ -1,0 +1,16 @@
+pub mod ResultLaws
+pub mod NumberLaws
+pub mod DigitLaws
+pub mod LineLaws
+pub mod RecordLaws
+pub mod VerdictLaws
+pub mod TurnLaws
+pub mod BalanceLaws
+pub mod LeftLaws
+pub mod TapeLaws
+pub mod EndLaws
+pub mod AuditLaws
+pub mod ReadingLaws
+pub mod JudgeLaws
+pub mod TapingLaws
+pub mod CloseLaws
