@@ -2,6 +2,7 @@
 
 use dp_adapters::ReaderSource;
 use dp_outside::{ByteSink, Sink, Source};
+use dp_polled::{ListPolled, Look, Polled};
 use dp_value::{Key, Memory, PhpArray, Value, ValueError};
 use dp_wire::Commands;
 use std::alloc::Global;
@@ -59,4 +60,21 @@ pub(crate) fn dp_wire(alloc: Global) -> Result<String, Memory> {
         write!(answer, "{start}..{end}")?;
     }
     Ok(answer)
+}
+
+/// Bytes come at a look, and not before.
+pub(crate) fn dp_polled(alloc: Global) -> Result<String, Memory> {
+    // call: five bytes are there from the second look on
+    let mut bytes = Vec::new(alloc);
+    bytes.extend_from_slice(b"hello")?;
+    let mut gives = Vec::new(alloc);
+    gives.push((2, bytes))?;
+    let mut polled = ListPolled::new(gives, Vec::new(alloc))?;
+    let mut room = [0; 8];
+    let first = polled.look(&mut room);
+    let second = polled.look(&mut room);
+    // end
+    let is_early = matches!(first, Ok(Look::NotYet));
+    let have_come = matches!(second, Ok(Look::Bytes(5)));
+    format!(in alloc; "{is_early}, {have_come}")
 }

@@ -26,11 +26,13 @@ fn main(rt: HostRuntime) -> io::Result<()> {
     put(&mut told, "dp_adapters", ground::dp_adapters(alloc))?;
     put(&mut told, "dp_value", ground::dp_value(alloc))?;
     put(&mut told, "dp_wire", ground::dp_wire(alloc))?;
+    put(&mut told, "dp_polled", ground::dp_polled(alloc))?;
     put(&mut told, "dp_markup", texts::dp_markup(alloc))?;
     put(&mut told, "dp_packet", texts::dp_packet(alloc))?;
     put(&mut told, "dp_command", texts::dp_command(alloc))?;
     put(&mut told, "dp_features", texts::dp_features(alloc))?;
     put(&mut told, "dp_reply", texts::dp_reply(alloc))?;
+    put(&mut told, "dp_bodies", texts::dp_bodies(alloc))?;
     print!(rt; "{}", told.as_str())?;
     Ok(())
 }

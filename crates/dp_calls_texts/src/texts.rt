@@ -1,5 +1,6 @@
 //! Calls of the crates of texts.
 
+use dp_bodies::{Bodies, DapError, body_bytes, request_of};
 use dp_command::{Command, LineError, Request, SessionRequest, read_line};
 use dp_features::{Features, Setting};
 use dp_markup::{MarkupError, read, write};
@@ -67,5 +68,24 @@ pub(crate) fn dp_reply(alloc: Global) -> Result<String, ReplyError> {
         Packet::Stream(output) => String::from_utf8_lossy(alloc, output.as_slice())?,
         _ => String::new(alloc),
     };
+    Ok(answer)
+}
+
+/// A body of a stream is read as a request.
+pub(crate) fn dp_bodies(alloc: Global) -> Result<String, DapError> {
+    // call
+    let text = b"{\"command\":\"next\",\"seq\":3,\"type\":\"request\"}";
+    let frame = body_bytes(alloc, text)?;
+    let mut bodies = Bodies::new(alloc);
+    bodies.feed(frame.as_slice())?;
+    let request = match bodies.next() {
+        Ok(Some(range)) => request_of(alloc, &bodies.bytes()[range.start..range.end])?,
+        _ => return Err(DapError::NotRequest),
+    };
+    // end
+    let seq = request.seq;
+    let command = String::from_utf8_lossy(alloc, request.command.as_slice())?;
+    let command = command.as_str();
+    let answer = format!(in alloc; "{seq}, {command}")?;
     Ok(answer)
 }

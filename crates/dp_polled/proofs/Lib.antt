@@ -1,0 +1,4 @@
+pub mod Keeps
+pub mod Coming
+pub mod Giving
+pub mod Waiting

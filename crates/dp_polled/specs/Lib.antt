@@ -1,0 +1,6 @@
+pub mod Polls
+pub mod Arrivals
+pub mod Posts
+pub mod Posted
+pub mod Turns
+pub mod inner

@@ -1,0 +1,2 @@
+-- How the code keeps its place; no public clause cites it.
+pub mod Places
