@@ -8,8 +8,8 @@ ghost use Rattle.dp_bodies.specs.Received.{IsCause};
 
 use crate::BodyError;
 use crate::heads::{Head, read_head};
-use crate::held::Held;
 use dp_value::Memory;
+use dp_wire::Held;
 use std::alloc::Global;
 use std::marker::Model;
 use std::ops::Range;

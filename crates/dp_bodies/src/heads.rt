@@ -1,8 +1,10 @@
 //! The head that stands before a body.
 
-ghost use Rattle.std.specs.Prelude.{◌≡◌, ◌+◌, ◌++◌, ◌<◌, ◌≤◌, IsNone, IfSome};
+ghost use Rattle.std.specs.Prelude.{◌++◌};
 ghost use Rattle.dp_bodies.specs.Frames.{length_name};
-ghost use Rattle.dp_bodies.specs.inner.Heads.{Agrees, AreDigits, IsDigit, IsHead};
+ghost use Rattle.dp_bodies.specs.inner.Heads.{Agrees, AreDigits, IsHead};
+
+use dp_wire::next_digit;
 
 /// The most bytes of a body that is read.
 pub const BODY_LIMIT: usize = 16_777_216;
@@ -63,19 +65,6 @@ fn compared(bytes: &[u8], wanted: &[u8]) -> Agreement
         }
     }
     Agreement::Whole
-}
-
-/// The digit that the byte is, where a number whose digits so far spell this one goes on with it.
-fn next_digit(number: usize, byte: u8) -> Option<usize>
-    ensures some { IfSome result (λ digit. (digit < 10) × (byte ≡ 48 + digit) × (0 < number + digit)) }
-    ensures first { IsNone result → (49 ≤ byte) × (byte ≤ 57) → ⊥ }
-    ensures later { IsNone result → 0 < number → IsDigit byte → ⊥ }
-{
-    match byte {
-        b'1'..=b'9' => Some((byte - b'0') as usize),
-        b'0' if number > 0 => Some(0),
-        _ => None,
-    }
 }
 
 /// Reads a number at the front of the bytes. Looks at nine bytes at most.

@@ -5,7 +5,6 @@ mod bodies;
 mod body;
 mod errors;
 mod heads;
-mod held;
 mod laws;
 mod message;
 mod request;

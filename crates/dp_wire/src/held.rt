@@ -7,8 +7,10 @@ use std::alloc::Global;
 use std::marker::Model;
 
 /// The bytes of a stream that were fed and not dropped. Contracts see these.
+///
+/// It has no limit of its own: who holds a stream refuses what passes one.
 #[derive(Debug, Drop)]
-pub(crate) struct Held {
+pub struct Held {
     alloc: Global,
     /// What was fed; the bytes before `from` were dropped.
     bytes: Vec<u8>,
@@ -26,7 +28,8 @@ impl Model for Held {
 }
 
 impl Held {
-    pub(crate) fn new(alloc: Global) -> Self
+    /// Holds no byte. Takes no memory.
+    pub fn new(alloc: Global) -> Self
         ensures { result ≡ [] }
     {
         Held {
@@ -36,14 +39,18 @@ impl Held {
         }
     }
 
-    pub(crate) fn as_slice(&self) -> &[u8]
+    /// The bytes held. Takes no memory.
+    pub fn as_slice(&self) -> &[u8]
         ensures { result.now ≡ self.now }
     {
         &self.bytes[self.from..]
     }
 
-    /// Appends a piece. What was dropped is given up where it is at least half, so this costs no more than that did.
-    pub(crate) fn append(&mut self, piece: &[u8]) -> Result<(), Memory>
+    /// Appends a piece. If memory runs out all stays as before.
+    ///
+    /// Copies the piece. Where at least half of the buffer was dropped, what is left of it is copied too, at no more
+    /// than the cost of what went.
+    pub fn append(&mut self, piece: &[u8]) -> Result<(), Memory>
         ensures ok { OnOk result (self.new ≡ self.old ++ piece.now) }
         ensures err { OnErr result (self.new ≡ self.old) }
     {
@@ -56,8 +63,8 @@ impl Held {
         Ok(())
     }
 
-    /// Drops so many bytes from the front. Takes no memory.
-    pub(crate) fn advance(&mut self, count: usize)
+    /// Drops so many bytes from the front. Takes no memory, and moves no byte.
+    pub fn advance(&mut self, count: usize)
         requires { count ≤ length self.old }
         ensures { self.new ≡ drop count self.old }
     {

@@ -44,7 +44,10 @@ pub(crate) fn read_length(bytes: &[u8]) -> Length
 }
 
 /// The digit that the byte is, where a length whose digits so far spell this number goes on with it.
-fn next_digit(number: usize, byte: u8) -> Option<usize>
+///
+/// The number is 0 where no digit stands before the byte. A length goes on with 1 to 9, and with 0 behind a first
+/// digit; `None` for any other byte. It knows no limit of lengths. Takes no memory.
+pub fn next_digit(number: usize, byte: u8) -> Option<usize>
     ensures some { IfSome result (λ digit. (digit < 10) × (byte ≡ 48 + digit) × (0 < number + digit)) }
     ensures none { IsNone result → MayFollow number byte → (byte ≡ 0) × (0 < number) }
 {
