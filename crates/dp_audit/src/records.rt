@@ -50,8 +50,8 @@ fn audit_with<S: Source, L: Ledger>(
 }
 
 /// Reads a record of a session with this key, over a program that may have so many moments: whether it is honest, or
-/// the first line that differs from what the session does, or that no record has there. Nothing behind that line is
-/// looked at. It waits in the calls of the source alone.
+/// the first line that differs from what the session does, or that no record has there. What stands behind that
+/// line changes nothing, but may have been read. It waits in the calls of the source alone.
 ///
 /// The key has at most 128 bytes, and the files of the program have names of files. One session is kept, and what it
 /// has told and the record has not, or the other way round.

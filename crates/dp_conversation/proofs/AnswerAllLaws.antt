@@ -1,5 +1,5 @@
 -- What a session has come to is joined to what comes next of it, one command at a time.
-use Rattle.std.proofs.Common.{◌≡◌, ℕ, List, [], ◌∷◌, ◌++◌, Option, None, Some, refl, sym, ap, ◌∙◌, subst, append_assoc, true, false, is_some}
+use Rattle.std.proofs.Common.{◌≡◌, ◌⊎◌, ℕ, Bool, List, [], ◌∷◌, ◌++◌, Option, None, Some, inl, inr, refl, sym, ap, ◌∙◌, subst, append_assoc, true, false, is_some}
 use Rattle.std.proofs.lemmas.Bool.{false≢true}
 use Rattle.std.specs.List.{flat_map, AllByRecursion}
 use Rattle.dp_wire.specs.Frames.{command_frame, commands_in, rest_of, BeginsCommand, IsPartialCommand, BeginsNoCommand, IsPacketText}
@@ -19,6 +19,34 @@ none_of (Some end) e = absurd (false≢true (sym e))
 some_of : {E : Type 0} (o : Option E) → is_some o ≡ true → (end : E) × (o ≡ Some end)
 some_of None e = absurd (false≢true e)
 some_of (Some end) e = (end, refl)
+
+-- ---- a session that had failed
+
+-- nothing was answered yet of what was held, or it had not failed
+abbrev pub Untouched : {S E : Type 0} → (S → Bool) → S → S → List ℕ → List ℕ → Option E → Type 0
+Untouched failed start state bytes held ended =
+    (failed start ≡ false) ⊎ ((state ≡ start) × (held ≡ bytes) × (ended ≡ None))
+
+-- one that answers has not failed
+pub had_not_failed : {S E : Type 0} (failed : S → Bool) (start state : S) (bytes held : List ℕ) (ended : Option E)
+    → Untouched failed start state bytes held ended → failed state ≡ false → failed start ≡ false
+had_not_failed failed start state bytes held ended (inl before) now = before
+had_not_failed failed start state bytes held ended (inr same) now = subst (λ s. failed s ≡ false) same.0 now
+
+-- no whole command is held
+pub none_was_held : {S E : Type 0} (failed : S → Bool) (start state : S) (bytes held : List ℕ) (ended : Option E)
+    → Untouched failed start state bytes held ended → commands_in held ≡ []
+    → (failed start ≡ false) ⊎ (commands_in bytes ≡ [])
+none_was_held failed start state bytes held ended (inl before) none = inl before
+none_was_held failed start state bytes held ended (inr same) none = inr (ap commands_in (sym same.1) ∙ none)
+
+-- a command has ended it
+pub has_answered : {S E : Type 0} (failed : S → Bool) (start state : S) (bytes held : List ℕ) (ended : Option E)
+    → Untouched failed start state bytes held ended → is_some ended ≡ true
+    → (failed start ≡ false) ⊎ (commands_in bytes ≡ [])
+has_answered failed start state bytes held ended (inl before) over = inl before
+has_answered failed start state bytes held ended (inr same) over =
+    absurd (false≢true (ap is_some (sym same.2) ∙ over))
 
 -- ---- the texts of two answers
 

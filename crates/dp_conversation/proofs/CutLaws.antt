@@ -9,7 +9,8 @@ use Rattle.dp_wire.specs.Frames.{commands_in, packet_frame, IsPartialCommand}
 use Rattle.dp_wire.proofs.NextLaws.{none_partial}
 use Rattle.dp_conversation.specs.declared.link.Fault.{Fault}
 use Rattle.dp_conversation.specs.declared.link.Fault.TheVariants.{Write, Out, Memory}
-use Rattle.dp_conversation.specs.inner.Exchanges.{Reached, CutsAnswer, CutsShort, OpenFault, Conversation}
+use Rattle.dp_conversation.specs.Deliveries.{CutsAnswer, SendFault}
+use Rattle.dp_conversation.specs.inner.Exchanges.{Reached, CutsShort, Conversation}
 use Rattle.dp_conversation.specs.declared.responder.Answer.{Answer}
 use Rattle.dp_conversation.specs.Folds.{Reply, nothing_sent, replies, reply_of}
 use Rattle.dp_conversation.specs.Service.{ConversationCutBy, IsConversationCut, IsLeftIn, IsReadUpTo, SendsPast, byte_limit, piece_limit}
@@ -178,7 +179,7 @@ module _ {S E X Y : Type 0} (step : S → List ℕ → Reply S E) (told : X → 
       (y0 y1 y2 : Y)
       → (talk : Conversation step start state init read held source (change told faults x0 x1)
       (change prints fails y0 y1)) → (replies step start talk.taken).ended ≡ None
-      → length read ≤ byte_limit → (up_to : IsReadUpTo step start read) → talk.taken ≡ commands_in up_to.front
+      → length read ≤ byte_limit → (up_to : IsReadUpTo step start piece_limit read) → talk.taken ≡ commands_in up_to.front
       → faults x0 ≤ faults x1 → fails y0 ≤ fails y1
       → CutsShort step state now (commands_in held) fault (change told faults x1 x2) (change prints fails y1 y2)
       → IsConversationCut step start now init fault source (change told faults x0 x2) (change prints fails y0 y2)
@@ -214,7 +215,7 @@ module _ {S E X Y : Type 0} (step : S → List ℕ → Reply S E) (told : X → 
   module _ {W : Type 0} (left : W → Option (List ℕ)) (breaks : W → ℕ) where
     -- the first packet was not sent
     pub cut_at_start : (start : S) (init : List ℕ) (fault : Fault E) (w : W) (x0 x1 : X) (y : Y)
-        → AppendsFront (told x0) (told x1) (packet_frame init) → OpenFault fault (change told faults x0 x1)
+        → AppendsFront (told x0) (told x1) (packet_frame init) → SendFault fault (change told faults x0 x1)
         → IsConversationCut step start start init fault (change left breaks w w) (change told faults x0 x1)
         (change prints fails y y)
     cut_at_start start init fault w x0 x1 y front why = record {
@@ -242,7 +243,7 @@ module _ {S E X Y : Type 0} (step : S → List ℕ → Reply S E) (told : X → 
       is_state = left_in fault start start refl;
       by = by fault why;
     } where
-      by : (fault : Fault E) → OpenFault fault (change told faults x0 x1)
+      by : (fault : Fault E) → SendFault fault (change told faults x0 x1)
           → ConversationCutBy fault (packet_frame init) (replies step start []) (replies step start [])
           (change told faults x0 x1) (change prints fails y y)
       by (Write ended) why = (why.0, why.1, Appends-nil (prints y))

@@ -127,7 +127,7 @@ all_taken read held taken stands partial =
 -- was held.
 pub read_up_to : {S E : Type 0} (step : S → List ℕ → Reply S E) (start : S) (front held piece read : List ℕ)
     (taken : List (List ℕ)) → HasTaken front held taken → (replies step start taken).ended ≡ None
-    → IsPartialCommand held → read ≡ front ++ piece → length piece ≤ piece_limit → IsReadUpTo step start read
+    → IsPartialCommand held → read ≡ front ++ piece → length piece ≤ piece_limit → IsReadUpTo step start piece_limit read
 read_up_to {S} {E} step start front held piece read taken stands goes_on partial whole short =
     let none = no_more_partial held partial in
     record {
@@ -143,7 +143,7 @@ read_up_to {S} {E} step start front held piece read taken stands goes_on partial
 pub read_behind : {S E : Type 0} (step : S → List ℕ → Reply S E) (start : S) (front held piece : List ℕ)
     (taken : List (List ℕ)) → HasTaken front held taken → (replies step start taken).ended ≡ None
     → IsPartialCommand held → length piece ≤ piece_limit
-    → (up_to : IsReadUpTo step start (front ++ piece)) × (taken ≡ commands_in up_to.front)
+    → (up_to : IsReadUpTo step start piece_limit (front ++ piece)) × (taken ≡ commands_in up_to.front)
 read_behind {S} {E} step start front held piece taken stands goes_on partial short =
     let none = no_more_partial held partial in (
       record {

@@ -8,7 +8,8 @@ use Rattle.dp_outside.specs.Changes.{Change, change}
 use Rattle.dp_wire.specs.Frames.{IsCommand, command_frame, commands_in, packet_frame, BeginsCommand}
 use Rattle.dp_wire.proofs.FrameLaws.{commands-text}
 use Rattle.dp_wire.proofs.SplitLaws.{framed}
-use Rattle.dp_conversation.specs.inner.Exchanges.{HasTaken, Delivers, DeliversAnswer, Reached, Conversation}
+use Rattle.dp_conversation.specs.Deliveries.{DeliversAnswer}
+use Rattle.dp_conversation.specs.inner.Exchanges.{HasTaken, Delivers, Reached, Conversation}
 use Rattle.dp_conversation.specs.declared.responder.Answer.{Answer}
 use Rattle.dp_conversation.specs.Folds.{Reply, nothing_sent, unless_ended, followed, replies, reply_of}
 

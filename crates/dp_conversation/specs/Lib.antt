@@ -1,3 +1,4 @@
+pub mod Deliveries
 pub mod Folds
 pub mod Growth
 pub mod NextAnswer

@@ -33,19 +33,19 @@ ConversationEndsBy (BadCommandFrame offset) ended rest read source =
 ConversationEndsBy ByteLimit ended rest read source =
     (ended ≡ None) × IsPartialCommand rest × (length read ≡ byte_limit)
 
--- the most bytes that are read at once
+-- the most bytes that a session over a link reads at once
 abbrev pub piece_limit : ℕ
 piece_limit = 8192
 
--- What was read ends with one piece. Before it no command had ended the session, and more of one
--- had to come: neither an end nor a bad command stood there. How often the source was asked for
--- the bytes of the piece is not said.
-pub record IsReadUpTo {S E : Type 0} (step : S → List ℕ → Reply S E) (start : S)
+-- What was read ends with one piece of at most so many bytes. Before it no command had ended the
+-- session, and more of one had to come: neither an end nor a bad command stood there. How often the
+-- source was asked for the bytes of the piece is not said.
+pub record IsReadUpTo {S E : Type 0} (step : S → List ℕ → Reply S E) (start : S) (limit : ℕ)
     (read : List ℕ) : Type 0 where
   pub front : List ℕ
   pub piece : List ℕ
   pub whole : read ≡ front ++ piece
-  pub short : length piece ≤ piece_limit
+  pub short : length piece ≤ limit
   pub goes_on : (served step start front).ended ≡ None
   pub partial : IsPartialCommand (rest_of front)
 
@@ -55,7 +55,7 @@ pub record IsConversed {S E : Type 0} (step : S → List ℕ → Reply S E) (sta
     (init : List ℕ) (over : SessionOver E) (source sink out : Change) : Type 0 where
   pub read : List ℕ
   pub within : length read ≤ byte_limit
-  pub up_to : IsReadUpTo step start read
+  pub up_to : IsReadUpTo step start piece_limit read
   pub consumed : Consumes source.told_before source.told read
   pub sent : Appends sink.told_before sink.told (packet_frame init
       ++ flat_map packet_frame (served step start read).packets)
@@ -104,7 +104,7 @@ pub record IsConversationCut {S E : Type 0} (step : S → List ℕ → Reply S E
     (init : List ℕ) (fault : Fault E) (source sink out : Change) : Type 0 where
   pub read : List ℕ
   pub within : length read ≤ byte_limit
-  pub up_to : IsReadUpTo step start read
+  pub up_to : IsReadUpTo step start piece_limit read
   pub consumed : Consumes source.told_before source.told read
   pub done : List (List ℕ)
   pub last : List (List ℕ)

@@ -1,7 +1,7 @@
 //! A session that is fed its commands in whatever pieces they come.
-ghost use Rattle.std.specs.Prelude.{◌≡◌, ◌++◌, [], None, IfOk, OnErr, OnOk, true};
+ghost use Rattle.std.specs.Prelude.{◌≡◌, ◌⊎◌, ◌++◌, [], None, IfOk, OnErr, OnOk, false, true};
 ghost use Rattle.std.specs.List.{AllByRecursion};
-ghost use Rattle.dp_wire.specs.Frames.{IsPacketText, rest_of};
+ghost use Rattle.dp_wire.specs.Frames.{IsPacketText, commands_in, rest_of};
 ghost use Rattle.dp_conversation.specs.Folds.{reply_of};
 ghost use Rattle.dp_conversation.specs.Growth.{served};
 ghost use Rattle.dp_conversation.specs.NextAnswer.{AreTextsNext, ComesNext, ComesUnfailed};
@@ -71,13 +71,16 @@ impl<A: Responder> Conversation<A> {
 
     /// Answers each whole command that is held, up to one that ends the session, and gives what they lead to together.
     ///
-    /// Once memory ran out nothing is said of the session: commands may have been answered whose answers are lost.
+    /// Where memory runs out nothing is said of the session: commands may have been answered whose answers are lost. A
+    /// session that has failed answers no command: none was held whole then.
     pub fn answer_all(&mut self, alloc: Global) -> Result<Answer<A::End>, Memory>
         ensures answers { IfOk result (λ answer. reply_of answer self.new.session
             ≡ served A.step self.old.session self.old.held.held) }
         ensures are_texts { IfOk result (λ answer. AllByRecursion IsPacketText answer.packets) }
         ensures held { IfOk result (λ answer. answer.ended ≡ None
             → self.new.held.held ≡ rest_of self.old.held.held) }
+        ensures stays { OnOk result ((A.failed self.old.session ≡ false)
+            ⊎ (commands_in self.old.held.held ≡ [])) }
     {
         let mut all = no_answer(alloc);
         'commands: while all.ended.is_none() {

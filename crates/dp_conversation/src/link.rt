@@ -5,12 +5,12 @@ ghost use Rattle.dp_outside.specs.Streams.{PutAppends};
 ghost use Rattle.std.specs.Io.KnownBytes.{Consumes};
 ghost use Rattle.std.specs.List.{AllByRecursion};
 ghost use Rattle.dp_wire.specs.Frames.{IsPacketText, commands_in, packet_frame};
-ghost use Rattle.dp_conversation.specs.inner.Exchanges.{AnswersHeld, CutsAnswer, CutsShort, DeliversAnswer, OpenFault};
-ghost use Rattle.dp_conversation.specs.inner.Exchanges.{ReadsPiece};
+ghost use Rattle.dp_conversation.specs.Deliveries.{CutsAnswer, DeliversAnswer, SendFault};
+ghost use Rattle.dp_conversation.specs.inner.Exchanges.{AnswersHeld, CutsShort, ReadsPiece};
 ghost use Rattle.dp_conversation.specs.Service.{IsConversed, IsConversationCut};
 
 use crate::conversation::{Conversation, Next};
-use crate::puts::{Unsent, put_unless_empty, send, send_all};
+use crate::puts::{Unsent, put_unless_empty, send_all, send_packet};
 use crate::responder::{Answer, Responder};
 use dp_outside::{Sink, Source};
 use dp_value::Memory;
@@ -81,8 +81,9 @@ enum Piece {
     Failed,
 }
 
-/// Delivers an answer: prints what the program wrote, then sends the packets.
-fn deliver<T: Drop, K: Sink, E: Sink>(
+/// Delivers an answer: prints what the program wrote, then sends the packets, and answers how the session has ended,
+/// if it has.
+pub fn deliver<T: Drop, K: Sink, E: Sink>(
     alloc: Global,
     answer: Answer<T>,
     sink: &mut K,
@@ -164,14 +165,14 @@ fn read_piece<A: Responder, S: Source>(
     }
 }
 
-/// Sends the first packet. Where that fails, a front of it was taken.
-fn open<T: Drop, K: Sink>(alloc: Global, init: &[u8], sink: &mut K) -> Result<(), Fault<T>>
-    requires { IsPacketText init.now }
-    ensures taken { PutAppends (K.taken sink.old) (K.taken sink.new) result (packet_frame init.now) }
-    ensures cause { IfErr result (λ fault. OpenFault fault (change K.taken K.faults sink.old sink.new)) }
+/// Sends the packet of this text, which belongs to no command. Where that fails, a front of it was taken.
+pub fn send<T: Drop, K: Sink>(alloc: Global, text: &[u8], sink: &mut K) -> Result<(), Fault<T>>
+    requires { IsPacketText text.now }
+    ensures taken { PutAppends (K.taken sink.old) (K.taken sink.new) result (packet_frame text.now) }
+    ensures cause { IfErr result (λ fault. SendFault fault (change K.taken K.faults sink.old sink.new)) }
     ensures later { K.faults sink.old ≤ K.faults sink.new }
 {
-    match send(alloc, init, sink) {
+    match send_packet(alloc, text, sink) {
         Ok(()) => Ok(()),
         Err(Unsent::Failed) => Err(Fault::Write(None)),
         Err(Unsent::Memory) => Err(Fault::Memory),
@@ -199,7 +200,7 @@ fn exchange<A: Responder, S: Source, K: Sink, E: Sink>(
     ensures sink_later { K.faults sink.old ≤ K.faults sink.new }
     ensures out_later { E.faults out.old ≤ E.faults out.new }
 {
-    open(alloc, init, sink)?;
+    send(alloc, init, sink)?;
     let mut buffer = [0; PIECE];
     let mut count = 0;
     'pieces: while count < BYTE_LIMIT {

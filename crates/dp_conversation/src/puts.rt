@@ -1,12 +1,12 @@
 //! Putting bytes and packets.
-ghost use Rattle.std.specs.Prelude.{◌≡◌, ◌≤◌, [], IsErrOf};
+ghost use Rattle.std.specs.Prelude.{◌≡◌, ◌≤◌, ◌++◌, [], IsErrOf, OnOk};
 ghost use Rattle.std.specs.List.{flat_map, AllByRecursion};
 ghost use Rattle.dp_outside.specs.Causes.{HasCause, Rose};
 ghost use Rattle.dp_outside.specs.Streams.{PutAppends};
 ghost use Rattle.dp_wire.specs.Frames.{IsPacketText, packet_frame};
 
 use dp_outside::{Failed, Sink};
-use dp_value::Bytes;
+use dp_value::{Bytes, Memory};
 use dp_wire::packet_bytes;
 use std::alloc::{AllocError, Global};
 
@@ -43,6 +43,18 @@ pub fn put_unless_empty<E: Sink>(out: &mut E, bytes: &[u8]) -> Result<(), Failed
     out.put(bytes)
 }
 
+/// Appends the packets of these texts to what is there. Where memory runs out nothing is said of what was appended.
+pub fn append_packets(alloc: Global, texts: &[Bytes], sent: &mut Vec<u8>) -> Result<(), Memory>
+    requires { AllByRecursion IsPacketText texts.now }
+    ensures { OnOk result (sent.new.items ≡ sent.old.items ++ flat_map packet_frame texts.now) }
+{
+    for text in texts {
+        let frame = packet_bytes(alloc, text.as_slice())?;
+        sent.extend_from_slice(frame.as_slice())?;
+    }
+    Ok(())
+}
+
 /// Sends the packets of these texts. Where that fails, a front of them was taken.
 pub(crate) fn send_all<K: Sink>(alloc: Global, texts: &[Bytes], sink: &mut K) -> Result<(), Unsent>
     requires { AllByRecursion IsPacketText texts.now }
@@ -51,13 +63,13 @@ pub(crate) fn send_all<K: Sink>(alloc: Global, texts: &[Bytes], sink: &mut K) ->
     ensures later { K.faults sink.old ≤ K.faults sink.new }
 {
     for text in texts {
-        send(alloc, text.as_slice(), sink)?;
+        send_packet(alloc, text.as_slice(), sink)?;
     }
     Ok(())
 }
 
 /// Sends the packet of this text. Where that fails, a front of it was taken.
-pub(crate) fn send<K: Sink>(alloc: Global, text: &[u8], sink: &mut K) -> Result<(), Unsent>
+pub(crate) fn send_packet<K: Sink>(alloc: Global, text: &[u8], sink: &mut K) -> Result<(), Unsent>
     requires { IsPacketText text.now }
     ensures taken { PutAppends (K.taken sink.old) (K.taken sink.new) result (packet_frame text.now) }
     ensures write { IsErrOf result Unsent.Failed → Rose (K.faults sink.old) (K.faults sink.new) }

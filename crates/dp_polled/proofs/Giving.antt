@@ -11,7 +11,7 @@ use Rattle.dp_polled.specs.declared.piece.Piece.TheVariants as piece
 use Rattle.dp_polled.specs.declared.polled.Look.{Look}
 use Rattle.dp_polled.specs.Polls.{look_is_over}
 use Rattle.dp_polled.specs.Posts.{Known, after_empty, after_take}
-use Rattle.dp_polled.specs.Posted.{State, Answers, Asked, AskedIf, GoesOn, IsKept, Tried, bytes_in, bytes_of, given}
+use Rattle.dp_polled.specs.Posted.{State, Answers, Asked, AskedIf, HasOnlyTaken, IsKept, Tried, bytes_in, bytes_of, given}
 use Rattle.dp_polled.specs.Posted.{is_over, is_spent, moved, rest, some_of, with_found}
 
 bytes_last : (ps : List Piece) (p : Piece) → bytes_of (ps ++ p ∷ []) ≡ bytes_of ps ++ bytes_in p
@@ -102,7 +102,7 @@ pub asked_given : (v w : State) → Asked v w → given w ≡ given v
 asked_given v w a = asked_by v w (is_spent v.kept v.at) refl a
 
 -- the seat has only asked and taken
-pub goes_itself : (v : Known) → GoesOn v v
+pub goes_itself : (v : Known) → HasOnlyTaken v v
 goes_itself v = record {
   post = refl;
   put = refl;
@@ -112,7 +112,7 @@ goes_itself v = record {
   found = ([], append-nil v.found);
 }
 
-pub goes_empty : (v : Known) → GoesOn v (after_empty v)
+pub goes_empty : (v : Known) → HasOnlyTaken v (after_empty v)
 goes_empty v = record {
   post = refl;
   put = refl;
@@ -122,7 +122,7 @@ goes_empty v = record {
   found = (false ∷ [], refl);
 }
 
-pub goes_take : (v : Known) (p : Piece) → GoesOn v (after_take p v)
+pub goes_take : (v : Known) (p : Piece) → HasOnlyTaken v (after_take p v)
 goes_take v p = record {
   post = refl;
   put = refl;
@@ -132,21 +132,21 @@ goes_take v p = record {
   found = (true ∷ [], refl);
 }
 
-found_goes : (v : State) (found : Option Piece) → GoesOn v.seat (with_found found v).seat
+found_goes : (v : State) (found : Option Piece) → HasOnlyTaken v.seat (with_found found v).seat
 found_goes v None = goes_empty v.seat
 found_goes v (Some p) = goes_take v.seat p
 
-goes_by : (v w : State) (b : Bool) → AskedIf b v w → GoesOn v.seat w.seat
-goes_by v w true a = subst (λ (u : State). GoesOn v.seat u.seat) (sym a.1) (found_goes v a.0)
-goes_by v w false a = subst (λ (u : State). GoesOn v.seat u.seat) (sym a) (goes_itself v.seat)
+goes_by : (v w : State) (b : Bool) → AskedIf b v w → HasOnlyTaken v.seat w.seat
+goes_by v w true a = subst (λ (u : State). HasOnlyTaken v.seat u.seat) (sym a.1) (found_goes v a.0)
+goes_by v w false a = subst (λ (u : State). HasOnlyTaken v.seat u.seat) (sym a) (goes_itself v.seat)
 
-pub asked_goes : (v w : State) → Asked v w → GoesOn v.seat w.seat
+pub asked_goes : (v w : State) → Asked v w → HasOnlyTaken v.seat w.seat
 asked_goes v w a = goes_by v w (is_spent v.kept v.at) a
 
 prefix_trans : {A : Type 0} (xs ys zs : List A) → IsPrefix xs ys → IsPrefix ys zs → IsPrefix xs zs
 prefix_trans xs ys zs p q = (p.0 ++ q.0, sym (append_assoc xs p.0 q.0) ∙ (ap (λ w. w ++ q.0) p.1 ∙ q.1))
 
-pub goes_on_and_on : (u v w : Known) → GoesOn u v → GoesOn v w → GoesOn u w
+pub goes_on_and_on : (u v w : Known) → HasOnlyTaken u v → HasOnlyTaken v w → HasOnlyTaken u w
 goes_on_and_on u v w p q = record {
   post = q.post ∙ p.post;
   put = q.put ∙ p.put;

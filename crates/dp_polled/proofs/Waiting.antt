@@ -10,7 +10,7 @@ use Rattle.dp_polled.specs.declared.piece.Piece.TheVariants as piece
 use Rattle.dp_polled.specs.declared.polled.Look.{Look}
 use Rattle.dp_polled.specs.declared.polled.Look.TheVariants.{NotYet, Bytes, End}
 use Rattle.dp_polled.specs.Polls.{count_of}
-use Rattle.dp_polled.specs.Posted.{State, Answers, AskedIf, CameIf, CameTo, GoesOn, Tried, WaitAnswers, Waited}
+use Rattle.dp_polled.specs.Posted.{State, Answers, AskedIf, CameIf, CameTo, HasOnlyTaken, Tried, WaitAnswers, Waited}
 use Rattle.dp_polled.specs.Posted.{given, is_over, is_spent, moved, some_of, wait_moved, waits, with_found}
 use Rattle.dp_polled.proofs.Giving.{asked_given, asked_goes, goes_itself, goes_on_and_on}
 
@@ -105,7 +105,7 @@ pub record IsQuiet (p s : State) : Type 0 where
   pub faults : s.faults ≡ p.faults
   pub gives : given s ≡ given p
   pub over : is_over s.kept ≡ is_over p.kept
-  pub goes : GoesOn p.seat s.seat
+  pub goes : HasOnlyTaken p.seat s.seat
 
 pub quiet_itself : (p : State) → IsQuiet p p
 quiet_itself p = record {
@@ -150,7 +150,7 @@ found_faults None s = refl
 found_faults (Some next) s = refl
 
 quiet_by : (p s asked : State) (b : Bool) → IsQuiet p s → is_spent s.kept s.at ≡ b → AskedIf b s asked →
-    is_spent asked.kept asked.at ≡ true → given asked ≡ given s → GoesOn s.seat asked.seat → IsQuiet p asked
+    is_spent asked.kept asked.at ≡ true → given asked ≡ given s → HasOnlyTaken s.seat asked.seat → IsQuiet p asked
 quiet_by p s asked false q is a e gives goes =
     absurd (true≢false (sym e ∙ ap (λ (u : State). is_spent u.kept u.at) a ∙ is))
 quiet_by p s asked true q is a e gives goes =

@@ -152,7 +152,7 @@ pub record Waited {E : Type 0} (room : ℕ) (p : State) (result : Result ℕ E)
 -- ---- its seat
 
 -- a seat that has only taken, and asked
-pub record GoesOn (v w : Known) : Type 0 where
+pub record HasOnlyTaken (v w : Known) : Type 0 where
   pub post : w.post ≡ v.post
   pub put : w.put ≡ v.put
   pub may_put : w.may_put ≡ v.may_put

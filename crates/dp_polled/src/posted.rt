@@ -4,7 +4,7 @@ ghost use mathlib.Core.Bool.{true≢false};
 ghost use mathlib.Core.Path.{sym};
 ghost use Rattle.dp_outside.specs.Causes.{HasCause};
 ghost use Rattle.dp_polled.specs.Polls.{came, count_of, look_is_over, wait_is_over, waited};
-ghost use Rattle.dp_polled.specs.Posted.{Answers, Asked, GoesOn, Tried, Waited, given, is_over, is_spent, moved};
+ghost use Rattle.dp_polled.specs.Posted.{Answers, Asked, HasOnlyTaken, Tried, Waited, given, is_over, is_spent, moved};
 ghost use Rattle.dp_polled.specs.Posted.{with_look};
 
 use crate::{Look, Piece, Polled, Post, PostSeat};
@@ -97,7 +97,7 @@ impl<'a, R> Posted<'a, R> {
     fn ask(&mut self)
         ensures asks { Asked self.old self.new }
         ensures given { given self.new ≡ given self.old }
-        ensures seat { GoesOn self.old.seat self.new.seat }
+        ensures seat { HasOnlyTaken self.old.seat self.new.seat }
     {
         if !self.is_spent() {
             return;
@@ -147,7 +147,7 @@ impl<'a, R> Posted<'a, R> {
         ensures looks { self.new.looks ≡ self.old.looks }
         ensures held { OnOk result (self.new.faults ≡ self.old.faults) }
         ensures cause { HasCause self.old.faults self.new.faults result }
-        ensures seat { GoesOn self.old.seat self.new.seat }
+        ensures seat { HasOnlyTaken self.old.seat self.new.seat }
     {
         self.ask();
         self.answer(buf)
@@ -194,7 +194,7 @@ impl<'a, R: Wait> Polled for Posted<'a, R> {
         // It waits for a piece exactly where there is room and the one that it keeps was given whole, and gives of the
         // piece that it keeps then. Its seat only takes.
         ensures waits { Waited (length buf.old) self.old result self.new }
-        ensures takes { GoesOn self.old.seat self.new.seat }
+        ensures takes { HasOnlyTaken self.old.seat self.new.seat }
     {
         if buf.is_empty() {
             // Nothing is asked for: a failure that stays is answered again.

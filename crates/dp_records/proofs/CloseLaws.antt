@@ -187,7 +187,8 @@ taped_none step rest_after ending_after start init source sink consumed written 
     piece = [];
     whole = refl;
     short = omega arith;
-    goes_on = (refl, none_partial [] refl (omega arith));
+    goes_on = refl;
+    partial = none_partial [] refl (omega arith);
   };
   consumed = consumed;
   ends = record {

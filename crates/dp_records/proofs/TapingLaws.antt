@@ -6,7 +6,7 @@ use Rattle.std.specs.List.{flat_map}
 use Rattle.dp_conversation.specs.declared.conversation.Conversation.{Conversation}
 use Rattle.dp_conversation.specs.Folds.{Reply}
 use Rattle.dp_conversation.specs.Growth.{served}
-use Rattle.dp_conversation.specs.Service.{byte_limit}
+use Rattle.dp_conversation.specs.Service.{IsReadUpTo, byte_limit}
 use Rattle.dp_outside.specs.Causes.{Rose}
 use Rattle.dp_outside.specs.Streams.{AppendsFront}
 use Rattle.dp_records.specs.declared.entry.Entry.{Entry}
@@ -15,7 +15,6 @@ use Rattle.dp_records.specs.declared.sessions.Over.{Over}
 use Rattle.dp_records.specs.declared.sessions.Over.TheVariants.{Open}
 use Rattle.dp_records.specs.declared.tapes.Taping.{Taping}
 use Rattle.dp_records.specs.Records.{IsPiece, line_of, piece_limit}
-use Rattle.dp_records.specs.Tapes.{IsReadUpTo}
 use Rattle.dp_records.specs.inner.Tapings.{HasPut, IsCut, IsTaping, PutFront, PutSome, Tells}
 use Rattle.dp_records.specs.inner.Turns.{AnswersAll}
 use Rattle.dp_records.proofs.TapeLaws.{cut_in, cut_more, cut_none, put_cut, put_in, put_on, tells_none}
@@ -57,23 +56,25 @@ module _ {S E : Type 0} (step : S → List ℕ → Reply S E) (start : S) (init 
     (tape : Taping S) (h : IsTaping step start init Open read tape before old) where
   -- ---- what was read
 
-  pub read_here : IsReadUpTo step start read
+  pub read_here : IsReadUpTo step start piece_limit read
   read_here = record {
     front = read;
     piece = [];
     whole = sym (append-nil read);
     short = omega arith;
-    goes_on = (h.stops.0, h.stops.2);
+    goes_on = h.stops.0;
+    partial = h.stops.2;
   }
 
   module _ (piece : List ℕ) where
-    pub read_on : length piece ≤ piece_limit → IsReadUpTo step start (read ++ piece)
+    pub read_on : length piece ≤ piece_limit → IsReadUpTo step start piece_limit (read ++ piece)
     read_on short = record {
       front = read;
       piece = piece;
       whole = refl;
       short = short;
-      goes_on = (h.stops.0, h.stops.2);
+      goes_on = h.stops.0;
+      partial = h.stops.2;
     }
 
     abbrev entry : Entry

@@ -1,10 +1,10 @@
 -- How taping a session ended: what was read of it, and what was written.
-use Rattle.std.specs.Prelude.{◌≡◌, ◌⊎◌, ℕ, ◌+◌, ◌<◌, ◌≤◌, List, ◌++◌, length, Option, Some, None}
+use Rattle.std.specs.Prelude.{◌≡◌, ◌⊎◌, ℕ, ◌+◌, ◌<◌, ◌≤◌, List, length, Option, Some, None}
 use Rattle.std.specs.Io.KnownBytes.{Appends, Consumes, IsAtEnd}
 use Rattle.std.specs.List.{flat_map}
 use Rattle.dp_conversation.specs.Folds.{Reply}
 use Rattle.dp_conversation.specs.Growth.{Begins, served}
-use Rattle.dp_conversation.specs.Service.{byte_limit}
+use Rattle.dp_conversation.specs.Service.{IsReadUpTo, byte_limit}
 use Rattle.dp_outside.specs.Causes.{Rose}
 use Rattle.dp_outside.specs.Changes.{Change}
 use Rattle.dp_outside.specs.Streams.{AppendsFront}
@@ -17,22 +17,11 @@ use Rattle.dp_records.specs.Records.{AreEntries, IsRecord, Recording, given, lin
 use Rattle.dp_records.specs.Verdicts.{AgreesThroughout, IsFaithful}
 use Rattle.dp_wire.specs.Frames.{BeginsNoCommand, IsPartialCommand, rest_of}
 
--- ---- what was read
+-- ---- why the session was over
 
 -- no command has ended the session, and more of one has to come
 abbrev pub GoesOn : {S E : Type 0} → Reply S E → List ℕ → Type 0
 GoesOn reply bytes = (reply.ended ≡ None) × IsPartialCommand (rest_of bytes)
-
--- What was read ends with one piece, before which the session went on.
-pub record IsReadUpTo {S E : Type 0} (step : S → List ℕ → Reply S E) (start : S) (read : List ℕ)
-    : Type 0 where
-  pub front : List ℕ
-  pub piece : List ℕ
-  pub whole : read ≡ front ++ piece
-  pub short : length piece ≤ piece_limit
-  pub goes_on : GoesOn (served step start front) front
-
--- ---- why the session was over
 
 -- a command ended it; or the offset of the first byte with which none begins; or the source gave
 -- its end
@@ -120,6 +109,6 @@ pub record Tapes {S E : Type 0} (step : S → List ℕ → Reply S E) (start : S
     (end : TapeEnd) (source sink : Change) : Type 0 where
   pub read : List ℕ
   pub within : length read ≤ byte_limit
-  pub up_to : IsReadUpTo step start read
+  pub up_to : IsReadUpTo step start piece_limit read
   pub consumed : Consumes source.told_before source.told read
   pub ends : EndsTape end behaviour (served step start read) read source sink

@@ -1,13 +1,10 @@
 //! Sessions that are recorded.
-ghost use Rattle.std.specs.Prelude.{◌≡◌, ◌++◌, ℕ, List, IfOk, OnOk};
-ghost use Rattle.std.specs.List.{AllByRecursion, flat_map};
-ghost use Rattle.dp_wire.specs.Frames.{IsPacketText, packet_frame};
+ghost use Rattle.std.specs.Prelude.{◌≡◌, ◌++◌, ℕ, List, IfOk};
 ghost use Rattle.dp_records.specs.inner.Turns.{Takes, end_of, is_bad};
 
-use dp_conversation::{Answer, Conversation, Next, Responder};
+use dp_conversation::{Answer, Conversation, Next, Responder, append_packets};
 use dp_state::Outcome;
 use dp_value::{Bytes, Memory};
-use dp_wire::packet_bytes;
 use std::alloc::Global;
 
 /// A session that can be recorded: it answers commands, and its program runs on once it is over.
@@ -56,18 +53,6 @@ pub(crate) enum Turn<E> {
     TooLong,
 }
 
-/// Puts the frames of these packets behind others.
-pub(crate) fn put_frames(alloc: Global, texts: &[Bytes], sent: &mut Vec<u8>) -> Result<(), Memory>
-    requires { AllByRecursion IsPacketText texts.now }
-    ensures { OnOk result (sent.new.items ≡ sent.old.items ++ flat_map packet_frame texts.now) }
-{
-    for text in texts {
-        let frame = packet_bytes(alloc, text.as_slice())?;
-        sent.extend_from_slice(frame.as_slice())?;
-    }
-    Ok(())
-}
-
 /// Answers the first command that is held, and puts what it sends and what its program writes behind these.
 pub(crate) fn answer_next<A: Responder>(
     alloc: Global,
@@ -86,7 +71,7 @@ pub(crate) fn answer_next<A: Responder>(
                 program,
                 ended,
             } = answer;
-            put_frames(alloc, packets.as_slice(), sent)?;
+            append_packets(alloc, packets.as_slice(), sent)?;
             own.extend_from_slice(program.as_slice())?;
             Ok(Turn::Answered(ended))
         }

@@ -5,6 +5,9 @@ ghost use Rattle.dp_records.specs.Statuses as spec;
 
 use dp_state::{KILLED_STATUS, Outcome, UNFINISHED_STATUS, status};
 
+/// The greatest status of a PHP program that came to its end, or exited.
+const EXIT_LIMIT: u8 = 199;
+
 /// Bytes stood in no command's place.
 const BAD_STATUS: u8 = 207;
 
@@ -19,5 +22,8 @@ pub(crate) fn status_of(bad: bool, outcome: Option<Outcome>) -> u8
 pub(crate) fn is_status(number: u8) -> bool
     ensures { result ≡ spec.is_status number }
 {
-    number <= 199 || number == BAD_STATUS || number == KILLED_STATUS || number == UNFINISHED_STATUS
+    number <= EXIT_LIMIT
+        || number == BAD_STATUS
+        || number == KILLED_STATUS
+        || number == UNFINISHED_STATUS
 }

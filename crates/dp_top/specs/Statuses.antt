@@ -1,9 +1,8 @@
 -- The statuses that the program ends with where it did not end as a PHP program did, by name.
 use Rattle.std.specs.Prelude.{ℕ}
-
--- the greatest status of a PHP program that came to its end, or exited
-abbrev pub exit_limit : ℕ
-exit_limit = 199
+-- the greatest status of a PHP program that came to its end, or exited; and that of bytes that are
+-- no command or no packet where one should stand
+pub use Rattle.dp_records.specs.Statuses.{exit_limit, bad_status as packet_status}
 
 -- the words ask for nothing
 abbrev pub usage_status : ℕ
@@ -32,10 +31,6 @@ differs_status = 205
 -- the peer ended before it should
 abbrev pub peer_end_status : ℕ
 peer_end_status = 206
-
--- bytes are no command or no packet where one should stand
-abbrev pub packet_status : ℕ
-packet_status = 207
 
 -- the input, or the network, failed
 abbrev pub network_status : ℕ

@@ -8,7 +8,7 @@ ghost use Rattle.dp_world.specs.inner.EngineStates.{Serves};
 
 use crate::engines::Engines;
 use crate::lent::lend;
-use dp_conversation::Answer;
+use dp_conversation::{Answer, append_packets};
 use dp_state::Outcome;
 use dp_value::{Bytes, Memory};
 use dp_wire::packet_bytes;
@@ -138,7 +138,7 @@ fn note<E: Drop>(
         program,
         ended,
     } = answer;
-    put_packets(alloc, packets.as_slice(), sent)?;
+    append_packets(alloc, packets.as_slice(), sent)?;
     own.extend_from_slice(program.as_slice())?;
     Ok(ended)
 }
@@ -175,16 +175,4 @@ pub(crate) fn finish<A: Engines>(
         own,
         outcome,
     })
-}
-
-/// Puts the packets of these texts behind what is there.
-fn put_packets(alloc: Global, texts: &[Bytes], sent: &mut Vec<u8>) -> Result<(), Memory>
-    requires { AllByRecursion IsPacketText texts.now }
-    ensures { OnOk result (sent.new.items ≡ sent.old.items ++ flat_map packet_frame texts.now) }
-{
-    for text in texts {
-        let frame = packet_bytes(alloc, text.as_slice())?;
-        sent.extend_from_slice(frame.as_slice())?;
-    }
-    Ok(())
 }

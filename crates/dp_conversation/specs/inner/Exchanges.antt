@@ -7,15 +7,13 @@ use Rattle.dp_outside.specs.Causes.{Rose}
 use Rattle.dp_outside.specs.Changes.{Change}
 use Rattle.dp_wire.specs.Frames.{IsCommand, command_frame, commands_in, packet_frame, IsPartialCommand, BeginsNoCommand}
 use Rattle.dp_conversation.specs.declared.link.Fault.{Fault}
-use Rattle.dp_conversation.specs.declared.link.Fault.TheVariants.{Write, Out, Memory}
 use Rattle.dp_conversation.specs.declared.link.Pause.{Pause}
 use Rattle.dp_conversation.specs.declared.link.Pause.TheVariants.{Ended, Partial, TooLong}
 use Rattle.dp_conversation.specs.declared.link.SessionOver.{SessionOver}
 use Rattle.dp_conversation.specs.declared.link.Piece.{Piece}
 use Rattle.dp_conversation.specs.declared.link.Piece.TheVariants.{Came, End, Failed}
-use Rattle.dp_conversation.specs.declared.responder.Answer.{Answer}
-use Rattle.dp_conversation.specs.Folds.{Reply, nothing_sent, replies, reply_of}
-use Rattle.dp_conversation.specs.Service.{ConversationCutBy, ConversationEndsBy, SendsPast, IsLeftIn, IsReadUpTo, byte_limit}
+use Rattle.dp_conversation.specs.Folds.{Reply, replies}
+use Rattle.dp_conversation.specs.Service.{ConversationCutBy, ConversationEndsBy, SendsPast, IsLeftIn, IsReadUpTo, byte_limit, piece_limit}
 
 -- These commands were taken from the bytes read, and what follows them is held. However the bytes
 -- go on, they stay the first commands.
@@ -28,17 +26,6 @@ pub record HasTaken (read held : List ℕ) (taken : List (List ℕ)) : Type 0 wh
 pub record Delivers {S E : Type 0} (reply : Reply S E) (sink out : Change) : Type 0 where
   pub sent : Appends sink.told_before sink.told (flat_map packet_frame reply.packets)
   pub printed : Appends out.told_before out.told reply.program
-
--- an answer was sent and printed, and nothing else, whatever the session knows then
-pub record DeliversAnswer {E : Type 0} (answer : Answer E) (sink out : Change) : Type 0 where
-  pub sent : Appends sink.told_before sink.told (flat_map packet_frame answer.packets)
-  pub printed : Appends out.told_before out.told answer.program
-
--- a fault left this of an answer, whatever the session knows then (a number stands for that)
-pub record CutsAnswer {E : Type 0} (answer : Answer E) (fault : Fault E)
-    (sink out : Change) : Type 0 where
-  pub sent : SendsPast {S = ℕ} {E = E} [] (nothing_sent 0) (reply_of answer 0) sink
-  pub by : ConversationCutBy {S = ℕ} fault [] (nothing_sent 0) (reply_of answer 0) sink out
 
 -- why no further command is answered
 abbrev pub StopsBy : {E : Type 0} → Pause E → Option E → List ℕ → Type 0
@@ -75,12 +62,6 @@ pub record CutsShort {S E : Type 0} (step : S → List ℕ → Reply S E) (start
   pub by : ConversationCutBy fault [] (replies step start done)
       (replies step start (done ++ last)) sink out
 
--- why the first packet was not sent
-abbrev pub OpenFault : {E : Type 0} → Fault E → Change → Type 0
-OpenFault (Write ended) sink = Rose sink.faults_before sink.faults × (ended ≡ None)
-OpenFault Out sink = ⊥
-OpenFault Memory sink = Unit {0}
-
 -- one piece was read from the source, and follows what is held
 abbrev pub ReadsPiece : Piece → ℕ → Change → List ℕ → List ℕ → Type 0
 ReadsPiece (Came count) room source held now =
@@ -110,6 +91,6 @@ pub record Converses {S E : Type 0} (step : S → List ℕ → Reply S E) (start
   pub read : List ℕ
   pub held : List ℕ
   pub within : length read ≤ byte_limit
-  pub up_to : IsReadUpTo step start read
+  pub up_to : IsReadUpTo step start piece_limit read
   pub talk : Conversation step start state init read held source sink out
   pub ends : ConversationEndsBy over (replies step start talk.taken).ended held read source

@@ -4,7 +4,7 @@ use Rattle.std.specs.Io.KnownBytes.{Appends, Consumes, IsAtEnd}
 use Rattle.std.specs.List.{flat_map, AllByRecursion}
 use Rattle.dp_conversation.specs.Folds.{Reply}
 use Rattle.dp_conversation.specs.Growth.{Begins, served}
-use Rattle.dp_conversation.specs.Service.{byte_limit}
+use Rattle.dp_conversation.specs.Service.{IsReadUpTo, byte_limit}
 use Rattle.dp_outside.specs.Causes.{Rose}
 use Rattle.dp_outside.specs.Changes.{Change}
 use Rattle.dp_outside.specs.Streams.{AppendsFront}
@@ -18,8 +18,8 @@ use Rattle.dp_records.specs.declared.tapes.Taping.{Taping}
 use Rattle.dp_records.specs.declared.tapes.Unput.{Unput}
 use Rattle.dp_records.specs.declared.tapes.Unput.TheVariants as unput
 use Rattle.dp_records.specs.Behaviours.{Behaviour}
-use Rattle.dp_records.specs.Records.{AreEntries, IsPiece, given, line_of, own, sent}
-use Rattle.dp_records.specs.Tapes.{GoesOn, HasFront, HasLines, IsReadUpTo}
+use Rattle.dp_records.specs.Records.{AreEntries, IsPiece, given, line_of, own, piece_limit, sent}
+use Rattle.dp_records.specs.Tapes.{GoesOn, HasFront, HasLines}
 use Rattle.dp_records.specs.Verdicts.{AgreesThroughout}
 use Rattle.dp_records.specs.inner.Audits.{sends}
 use Rattle.dp_records.specs.inner.Turns.{StopsBy}
@@ -122,7 +122,7 @@ module _ {S E : Type 0} (step : S → List ℕ → Reply S E) (start : S) (init 
   -- what was read of the source
   pub record HasRead (read : List ℕ) (source : Change) : Type 0 where
     pub within : length read ≤ byte_limit
-    pub up_to : IsReadUpTo step start read
+    pub up_to : IsReadUpTo step start piece_limit read
     pub consumed : Consumes source.told_before source.told read
 
   -- so much was read, and the session taped as far

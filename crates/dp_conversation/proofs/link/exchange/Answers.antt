@@ -15,11 +15,11 @@ pub pieces-init : goal.pieces-init
 pieces-init g c =
     let first = talk_first g.A.Responder.step g.S.Source.left g.S.Source.faults g.K.Sink.taken g.K.Sink.faults
     g.E.Sink.taken g.E.Sink.faults
-    c.args.talk.now.session c.args.init.now c.args.source.now c.args.sink.now c.open.new.sink c.args.out.now
-    c.in_ok-open.ensures.taken in
+    c.args.talk.now.session c.args.init.now c.args.source.now c.args.sink.now c.send.new.sink c.args.out.now
+    c.in_ok-send.ensures.taken in
     let none : [] ≡ c.args.talk.now.held.held = sym c.requires.fed in (
       omega arith,
-      omega (arith, c.in_ok-open.ensures.later),
+      omega (arith, c.in_ok-send.ensures.later),
       omega arith,
       omega arith,
       subst IsPartialCommand none (none_partial [] refl (omega arith)),
@@ -29,7 +29,7 @@ pieces-init g c =
         subst (λ (l : List ℕ). (talk : Conversation g.A.Responder.step c.args.talk.now.session c.args.talk.now.session
             c.args.init.now [] l
             (change g.S.Source.left g.S.Source.faults c.args.source.now c.args.source.now)
-            (change g.K.Sink.taken g.K.Sink.faults c.args.sink.now c.open.new.sink)
+            (change g.K.Sink.taken g.K.Sink.faults c.args.sink.now c.send.new.sink)
             (change g.E.Sink.taken g.E.Sink.faults c.args.out.now c.args.out.now))
             × ((replies g.A.Responder.step c.args.talk.now.session talk.taken).ended ≡ None)) none first,
       ),
@@ -247,14 +247,14 @@ returns-clause-ok g c =
       ends = (inv.5.2.1, inv.4, omega (arith, inv.5.1));
     })
 
-pub returns-in_err-open-clause-cut : goal.returns-in_err-open-clause-cut
-returns-in_err-open-clause-cut g c =
+pub returns-in_err-send-clause-cut : goal.returns-in_err-send-clause-cut
+returns-in_err-send-clause-cut g c =
     let p = err_from_is_err_and c.from_residual.result c.from_residual.ensures.1 in
     rw (p.1, p.2)
     (cut_at_start g.A.Responder.step g.K.Sink.taken g.K.Sink.faults g.E.Sink.taken g.E.Sink.faults g.S.Source.left
     g.S.Source.faults
-    c.args.talk.now.session c.args.init.now _ c.args.source.now c.args.sink.now c.open.new.sink c.args.out.now
-    c.in_err-open.ensures.taken c.in_err-open.ensures.cause)
+    c.args.talk.now.session c.args.init.now _ c.args.source.now c.args.sink.now c.send.new.sink c.args.out.now
+    c.in_err-send.ensures.taken c.in_err-send.ensures.cause)
 
 pub returns-in_err-read_piece-clause-cut : goal.returns-in_err-read_piece-clause-cut
 returns-in_err-read_piece-clause-cut g c =

@@ -1,6 +1,6 @@
 use Rattle.std.proofs.Common.{◌≡◌, Some, length, ap, sym, ◌∙◌, subst, true}
 use Rattle.dp_polled.specs.Posts.{Known, after_empty, after_take}
-use Rattle.dp_polled.specs.Posted.{State, GoesOn, IsKept, given, is_spent}
+use Rattle.dp_polled.specs.Posted.{State, HasOnlyTaken, IsKept, given, is_spent}
 use Rattle.dp_polled.proofs.Giving.{goes_empty, goes_take, keeps_next, took_given}
 use Rattle.dp_polled.proofs.posted.Posted.ask.Goals as goal
 
@@ -25,12 +25,12 @@ returns-in-Some-clause-given g c =
 pub returns-in-Some-clause-seat : goal.returns-in-Some-clause-seat
 returns-in-Some-clause-seat g c =
     let s = c.self.inside in
-    subst (λ (k : Known). GoesOn c.args.self.now.seat k) (sym c.in-Some.ensures)
-    (subst (λ (v : State). GoesOn v.seat (after_take c.in-Some.piece s.seat)) c.self.view_is
+    subst (λ (k : Known). HasOnlyTaken c.args.self.now.seat k) (sym c.in-Some.ensures)
+    (subst (λ (v : State). HasOnlyTaken v.seat (after_take c.in-Some.piece s.seat)) c.self.view_is
     (goes_take s.seat c.in-Some.piece))
 
 pub returns-in_default-clause-seat : goal.returns-in_default-clause-seat
 returns-in_default-clause-seat g c =
     let s = c.self.inside in
-    subst (λ (k : Known). GoesOn c.args.self.now.seat k) (sym c.in_default.ensures)
-    (subst (λ (v : State). GoesOn v.seat (after_empty s.seat)) c.self.view_is (goes_empty s.seat))
+    subst (λ (k : Known). HasOnlyTaken c.args.self.now.seat k) (sym c.in_default.ensures)
+    (subst (λ (v : State). HasOnlyTaken v.seat (after_empty s.seat)) c.self.view_is (goes_empty s.seat))
