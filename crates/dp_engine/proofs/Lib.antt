@@ -4,6 +4,7 @@ pub mod MachineStops
 pub mod UnseenMoments
 pub mod StopMoments
 pub mod NextMoments
+pub mod PassedMoments
 pub mod Departures
 pub mod WriteAnswers
 pub mod RefusalLaws

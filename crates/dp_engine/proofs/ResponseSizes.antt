@@ -30,7 +30,8 @@ use Rattle.dp_packet.proofs.LengthLaws.{bare_response_short, fault_short, init_s
 use Rattle.dp_packet.specs.Uris.{file_uri}
 use Rattle.dp_wire.specs.Frames.{IsPacketText, command_limit}
 use Rattle.dp_engine.specs.Responses.{init_text, main_name, fault_response, feature_response, response, response_text, set_response, success_response, status_attributes, status_response}
-use Rattle.dp_engine.specs.inner.Sizes.{Fits, IsShort, IsShortRequest}
+use Rattle.dp_engine.specs.ShortLines.{IsShort}
+use Rattle.dp_engine.specs.inner.Sizes.{Fits, IsShortRequest}
 
 -- ---- messages
 

@@ -10,7 +10,7 @@ use Rattle.dp_conversation.specs.declared.link.Fault.TheVariants as fault
 use Rattle.dp_conversation.specs.declared.link.SessionOver.{SessionOver}
 use Rattle.dp_conversation.specs.declared.link.SessionOver.TheVariants as over
 use Rattle.dp_conversation.specs.Folds.{Reply}
-use Rattle.dp_conversation.specs.Service.{AppendsPast, IsConversationCut, IsConversed, IsReadUpTo, byte_limit}
+use Rattle.dp_conversation.specs.Service.{AppendsPast, IsConversationCut, IsConversed, IsReadUpTo, byte_limit, piece_limit}
 use Rattle.dp_conversation.proofs.FrontLaws.{front_all, front_none, past_after, past_less, past_none, past_of_more, past_same, past_whole}
 use Rattle.dp_conversation.proofs.GrowthLaws.{replies_go_on}
 use Rattle.dp_conversation.proofs.NextAnswerLaws.{commands_go_on}
@@ -21,7 +21,7 @@ use Rattle.dp_engine.specs.declared.service.Served.{Served}
 use Rattle.dp_engine.specs.declared.session.SessionEnd.{SessionEnd}
 use Rattle.dp_engine.specs.declared.session.SessionEnd.TheVariants as end
 use Rattle.dp_engine.specs.Answers.{answer}
-use Rattle.dp_engine.specs.inner.RestOfRun.{RanOn, RanOnTo, IsLeft, Closes, ClosesCut}
+use Rattle.dp_engine.specs.RestOfRun.{RanOn, RanOnTo, IsLeft, Closes, ClosesCut}
 use Rattle.dp_engine.specs.Responses.{init_text}
 use Rattle.dp_engine.specs.Served.{alone_with, answers, answers_to, ending_after, own_with, rest_after}
 use Rattle.dp_engine.specs.Service.{CutBy, EndsBy, IsCut, IsServed, Serves, ServesTo}
@@ -88,7 +88,7 @@ module _ {W X Y : Type 0} (left : W → Option (List ℕ)) (breaks : W → ℕ) 
   record HasPrinted : Type 0 where
     read : List ℕ
     within : length read ≤ byte_limit
-    up_to : IsReadUpTo answer (opening bundle bound) read
+    up_to : IsReadUpTo answer (opening bundle bound) piece_limit read
     consumed : Consumes source.told_before source.told read
     done : List (List ℕ)
     last : List (List ℕ)

@@ -79,7 +79,8 @@ module _ (mode : Moment → Bool) (bundle : Bundle) (n : ℕ) (moments : Moments
       let there = stop_is_there mode bundle left (n + 1) moments stop e in
       let later : n + 1 < stop = omega (arith, there.2, there.3) in later_number stop n later
 
-  stop_is : (b : Bool) → b ≡ here → stop_above mode bundle held n moments
+  -- the stop is the first that is found
+  pub stop_is : (b : Bool) → b ≡ here → stop_above mode bundle held n moments
       ≡ (cond b (Some (n + 1), left) (found mode bundle left (n + 1) (drop (n + 1) moments))).0
   stop_is b e =
       sym (found-stop bundle mode held n (drop n moments))

@@ -4,10 +4,13 @@ pub mod States
 pub mod Session
 pub mod Wishes
 pub mod Responses
+pub mod ShortLines
 pub mod Refusals
 pub mod Answers
 pub mod Passes
+pub mod Passed
 pub mod Refused
 pub mod Served
+pub mod RestOfRun
 pub mod Service
 pub mod inner

@@ -3,6 +3,7 @@
 -- `passing_is_answering` of dp_session_laws.
 use Rattle.std.specs.Prelude.{◌≡◌, ℕ, Bool, true, false, ◌∷◌, [], ◌++◌, drop, length, Option, Some, None, option_and_then}
 use Rattle.std.specs.List.{AllByRecursion}
+use Rattle.dp_command.specs.declared.addressee.Addressee.{Addressee}
 use Rattle.dp_command.specs.declared.command.Command.{Command}
 use Rattle.dp_command.specs.declared.command.Continuation.{Continuation}
 use Rattle.dp_command.specs.declared.command.Request.{Request}
@@ -29,6 +30,24 @@ use Rattle.dp_engine.specs.Responses.{response_text}
 use Rattle.dp_engine.specs.Session.{State, depth_at, output_so_far}
 use Rattle.dp_engine.specs.Stops.{stops}
 
+-- ---- what one is on its way
+
+-- which it is
+abbrev pub mode_of : Going → Continuation
+mode_of going = going.mode
+
+-- the name of its command and the id, which its response repeats
+abbrev pub addressee_of : Going → Addressee
+addressee_of going = going.to
+
+-- the depth from which it went on
+abbrev pub depth_from : Going → ℕ
+depth_from going = going.depth
+
+-- how much of the program's output was shown before
+abbrev pub shown_before : Going → ℕ
+shown_before going = going.shown
+
 -- ---- what asks for one
 
 abbrev pub continuation_in : Request → Option Continuation
@@ -54,11 +73,11 @@ departing state line =
 -- A continuation that this line asks for: its response repeats the name and the id of the line, it
 -- goes on from the depth where the session stands, and what the program had written was shown.
 pub record SetsOut (state : State) (line : Option Line) (going : Going) : Type 0 where
-  pub requested : departing state line ≡ Some going.mode
-  pub command : going.to.command ≡ command_in line
-  pub id : going.to.id ≡ id_in line
-  pub depth : going.depth ≡ depth_at state
-  pub shown : going.shown ≡ length (output_so_far state)
+  pub requested : departing state line ≡ Some (mode_of going)
+  pub command : (addressee_of going).command ≡ command_in line
+  pub id : (addressee_of going).id ≡ id_in line
+  pub depth : depth_from going ≡ depth_at state
+  pub shown : shown_before going ≡ length (output_so_far state)
 
 -- what a session, which knows this then, gives of a line: a continuation, and nothing has changed,
 -- or the answer

@@ -6,7 +6,7 @@ use Rattle.dp_outside.specs.Causes.{Rose}
 use Rattle.dp_outside.specs.Changes.{Change}
 use Rattle.dp_outside.specs.Streams.{AppendsFront}
 use Rattle.dp_conversation.specs.declared.link.SessionOver.TheVariants as over
-use Rattle.dp_conversation.specs.Service.{AppendsPast, ConversationEndsBy, IsReadUpTo, byte_limit}
+use Rattle.dp_conversation.specs.Service.{AppendsPast, ConversationEndsBy, IsReadUpTo, byte_limit, piece_limit}
 use Rattle.dp_state.specs.declared.moments.Outcome.{Outcome}
 use Rattle.dp_wire.specs.Frames.{commands_in, packet_frame, rest_of}
 use Rattle.dp_engine.specs.declared.service.ServeEnd.{ServeEnd}
@@ -43,7 +43,7 @@ pub record IsServed (served : Served) (bundle : Bundle) (bound : ℕ) (key : Lis
     (source sink out : Change) : Type 0 where
   pub read : List ℕ
   pub within : length read ≤ byte_limit
-  pub up_to : IsReadUpTo answer (opening bundle bound) read
+  pub up_to : IsReadUpTo answer (opening bundle bound) piece_limit read
   pub consumed : Consumes source.told_before source.told read
   pub sent : Appends sink.told_before sink.told (alone bundle bound key read)
   pub printed : Appends out.told_before out.told (own bundle bound read)
@@ -82,7 +82,7 @@ pub record IsCut (served : Served) (bundle : Bundle) (bound : ℕ) (key : List �
     (source sink out : Change) : Type 0 where
   pub read : List ℕ
   pub within : length read ≤ byte_limit
-  pub up_to : IsReadUpTo answer (opening bundle bound) read
+  pub up_to : IsReadUpTo answer (opening bundle bound) piece_limit read
   pub consumed : Consumes source.told_before source.told read
   pub done : List (List ℕ)
   pub last : List (List ℕ)

@@ -1,10 +1,9 @@
 -- What only proofs speak of: how the code keeps a session's program, turns before they are made,
--- what is short enough for a packet, what becomes of a program once its session is over, and of the
--- writes that are kept, and what of a line is a continuation. No public clause cites these.
+-- what is short enough for a packet, the writes that are kept, and what of a line is a
+-- continuation. No public clause cites these.
 pub mod Position
 pub mod Turns
 pub mod Sizes
-pub mod RestOfRun
 pub mod KeptWrites
 pub mod Unseen
 pub mod Departures

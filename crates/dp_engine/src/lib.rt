@@ -15,6 +15,7 @@ mod session;
 mod states;
 mod stops;
 mod streams;
+mod texts;
 mod turns;
 mod writes;
 
@@ -25,6 +26,7 @@ pub use metered::Metered;
 pub use moves::{go_on_from, pass_one};
 pub use passes::{Departure, Going, Passing};
 pub use reached::{Passed, Reached};
-pub use service::{ServeEnd, Served, serve};
-pub use session::{Answer, Report, Session, SessionEnd};
+pub use service::{ServeEnd, Served, close, close_cut, serve};
+pub use session::{Answer, Report, Session, SessionEnd, line_in};
 pub use states::{Phase, Reason};
+pub use texts::{fault_text, feature_text, status_text, success_text};

@@ -5,14 +5,14 @@ ghost use Rattle.dp_command.specs.Lines.{line_of};
 ghost use Rattle.dp_engine.specs.Passes as spec;
 ghost use Rattle.dp_engine.specs.inner.Departures.{GivesGoing};
 ghost use Rattle.dp_engine.specs.inner.Position.{phase_of};
-ghost use Rattle.dp_engine.specs.inner.Sizes.{IsShort, IsShortLine};
+ghost use Rattle.dp_engine.specs.ShortLines.{IsShort, IsShortLine};
 ghost use Rattle.dp_wire.specs.Frames.{IsCommand, IsPacketText};
 
 use crate::moves::pass_one;
 use crate::reached::Reached;
 use crate::refusals::read_command;
 use crate::replies::tell_status;
-use crate::session::{Answer, Session, give, read};
+use crate::session::{Answer, Session, give, line_in};
 use crate::states::{Phase, Position};
 use dp_command::{Addressee, CommandError, Continuation, Line, Request, SessionRequest};
 use dp_step::Steps;
@@ -120,7 +120,30 @@ impl<'a> Session<'a> {
         }
     }
 
-    /// The same; once memory ran out it is not noted yet.
+    /// The same of a line that was read, or of bytes that spell none, as `line_in` answers them: they are not read
+    /// again. For whoever looks at the line first.
+    ///
+    /// Its name and the values of its options are no longer than those of a command. Where memory runs out the session
+    /// has failed for good. The options are read twice, as in `depart`.
+    pub fn depart_read<L: Ledger>(
+        &mut self,
+        line: Option<Line>,
+        steps: &mut Steps<L>,
+    ) -> Result<Departure, Memory>
+        requires { IsShortLine line }
+        ensures departs { IfOk result (spec.Departs self.old line self.new) }
+        ensures are_texts { IfOk result spec.AreTextsOf }
+        ensures steps { OnOk result (steps.new ≡ steps.old + steps_between self.old self.new) }
+        ensures fails { OnErr result (self.new.failed ≡ true) }
+        ensures stays { OnOk result (self.old.failed ≡ false) }
+    {
+        match self.departure(line, steps) {
+            Ok(departure) => Ok(departure),
+            Err(_) => Err(self.fail()),
+        }
+    }
+
+    /// What a command departs with; once memory ran out it is not noted yet.
     fn depart_line<L: Ledger>(
         &mut self,
         line: &[u8],
@@ -132,7 +155,22 @@ impl<'a> Session<'a> {
         ensures steps { OnOk result (steps.new ≡ steps.old + steps_between self.old self.new) }
         ensures stays { OnOk result (self.old.failed ≡ false) }
     {
-        let line = read(self.alloc, line)?;
+        let line = line_in(self.alloc, line)?;
+        self.departure(line, steps)
+    }
+
+    /// The same of a line that was read.
+    fn departure<L: Ledger>(
+        &mut self,
+        line: Option<Line>,
+        steps: &mut Steps<L>,
+    ) -> Result<Departure, Memory>
+        requires { IsShortLine line }
+        ensures departs { IfOk result (spec.Departs self.old line self.new) }
+        ensures are_texts { IfOk result spec.AreTextsOf }
+        ensures steps { OnOk result (steps.new ≡ steps.old + steps_between self.old self.new) }
+        ensures stays { OnOk result (self.old.failed ≡ false) }
+    {
         let found = self.going(&line)?;
         match found {
             Some(going) => Ok(Departure::Goes(going)),
@@ -197,7 +235,7 @@ impl<'a> Session<'a> {
         steps: &mut Steps<L>,
     ) -> Result<Passing, Memory>
         ensures passing { IfOk result (λ passing. passing
-            ≡ spec.passing going.now.mode going.now.depth self.old) }
+            ≡ spec.passing (spec.mode_of going.now) (spec.depth_from going.now) self.old) }
         ensures goes { OnOk result (self.new ≡ spec.passed self.old) }
         ensures steps { OnOk result (steps.new ≡ steps.old + steps_between self.old self.new) }
         ensures fails { OnErr result (self.new.failed ≡ true) }
@@ -259,7 +297,8 @@ impl<'a> Session<'a> {
     /// good.
     pub fn arrive(&mut self, going: Going) -> Result<Answer, Memory>
         ensures ok { IfOk result (λ answer. reply_of answer self.new
-            ≡ spec.arrived going.to.command going.to.id going.shown self.old) }
+            ≡ spec.arrived (spec.addressee_of going).command (spec.addressee_of going).id
+            (spec.shown_before going) self.old) }
         ensures are_texts { IfOk result (λ answer. AllByRecursion IsPacketText answer.packets) }
         ensures fails { OnErr result (self.new.failed ≡ true) }
         ensures stays { OnOk result (self.old.failed ≡ false) }

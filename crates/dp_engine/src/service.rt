@@ -2,8 +2,8 @@
 ghost use Rattle.std.specs.Prelude.{◌≡◌, ◌≤◌, ℕ, List, None, Some};
 ghost use Rattle.dp_outside.specs.Changes.{change};
 ghost use Rattle.dp_wire.specs.Frames.{IsPacketText};
-ghost use Rattle.dp_engine.specs.inner.RestOfRun.{CanRunOn, Closes, ClosesCut, RanOn};
 ghost use Rattle.dp_engine.specs.Responses.{init_text};
+ghost use Rattle.dp_engine.specs.RestOfRun.{CanRunOn, Closes, ClosesCut, RanOn};
 ghost use Rattle.dp_engine.specs.Service.{Serves};
 ghost use Rattle.dp_engine.specs.Session.{opening};
 
@@ -86,8 +86,16 @@ fn run_on<E: Sink, L: Ledger>(
     }
 }
 
-/// What becomes of the program once the session is over.
-fn close<E: Sink, L: Ledger>(
+/// What becomes of the program once the session is over: one that was killed is left where it stands, and each other
+/// one runs on to its end. What it still writes is put to `out`, and its outcome is told with the end of the session.
+///
+/// `session` is the one that is over, and nothing was answered since; the link is the caller's to end, best before
+/// this call. Where the program's output fails, or memory runs out, that is the end told, without an outcome, and a
+/// front of what it still writes was put.
+///
+/// It takes what the rest of the program's run takes, and a copy of what it writes there: nothing is put before its
+/// end. A step is counted for each moment that comes on the way; no clause says so.
+pub fn close<E: Sink, L: Ledger>(
     session: Session<'_>,
     over: SessionOver<SessionEnd>,
     out: &mut E,
@@ -114,8 +122,13 @@ fn close<E: Sink, L: Ledger>(
     }
 }
 
-/// What becomes of the program once a fault has cut the session short.
-fn close_cut<E: Sink, L: Ledger>(
+/// What becomes of the program once a fault has cut the session short. Where the link's sink failed the program runs
+/// on as in `close`, unless the last command had killed it; where the program's own output failed, or memory ran out,
+/// it is left where it stands, and `out` takes nothing.
+///
+/// `session` is the one that was cut short, and nothing was answered since. Limits, errors and cost are those of
+/// `close`.
+pub fn close_cut<E: Sink, L: Ledger>(
     session: Session<'_>,
     fault: Fault<SessionEnd>,
     out: &mut E,

@@ -4,7 +4,8 @@ ghost use Rattle.std.specs.List.{AllByRecursion};
 ghost use Rattle.dp_wire.specs.Frames.{IsCommand, IsPacketText};
 ghost use Rattle.dp_outside.specs.Names.{key_limit};
 ghost use Rattle.dp_engine.specs.Responses.{init_text, main_name};
-ghost use Rattle.dp_engine.specs.inner.Sizes.{Fits, HasRoom, IsShortLine};
+ghost use Rattle.dp_engine.specs.ShortLines.{IsShortLine};
+ghost use Rattle.dp_engine.specs.inner.Sizes.{Fits, HasRoom};
 ghost use Rattle.dp_engine.specs.inner.Turns.{IsSent};
 ghost use Rattle.dp_command.specs.Lines.{line_of};
 ghost use Rattle.dp_tree.specs.FileNames.{AreFileNames, file_name_limit};
@@ -98,8 +99,11 @@ impl<'a> Model for Session<'a> {
         × AreFileNames (map (λ f. f.name) s.bundle.now.files) };
 }
 
-/// The line that the bytes spell, if they spell one.
-pub(crate) fn read(alloc: Global, bytes: &[u8]) -> Result<Option<Line>, Memory>
+/// The line that the bytes of a command spell, if they spell one; `Session::depart_read` takes it.
+///
+/// The bytes are those of a whole command, without its NUL. It answers that it is out of memory where the line has no
+/// room. Each byte is looked at, and name, options and payload of the line are copied.
+pub fn line_in(alloc: Global, bytes: &[u8]) -> Result<Option<Line>, Memory>
     requires { IsCommand bytes.now }
     ensures value { IfOk result (λ line. line ≡ line_of bytes.now) }
     ensures short { IfOk result IsShortLine }
@@ -195,6 +199,13 @@ impl<'a> Session<'a> {
         Ok((session, init))
     }
 
+    /// The state of the session, of one that has failed too. Takes no memory.
+    pub fn phase(&self) -> Phase
+        ensures { result ≡ self.now.phase }
+    {
+        self.position.phase()
+    }
+
     /// Answers one whole command, without its NUL. Where memory runs out the session has failed for good: each later
     /// call answers that it is out of memory.
     ///
@@ -252,7 +263,7 @@ impl<'a> Session<'a> {
         ensures steps { IfOk result (λ answer. steps.new ≡ steps.old + steps_between self.old self.new) }
         ensures stays { OnOk result (self.old.failed ≡ false) }
     {
-        let line = read(self.alloc, line)?;
+        let line = line_in(self.alloc, line)?;
         self.answer_read(line, steps)
     }
 
@@ -286,7 +297,7 @@ impl<'a> Session<'a> {
         ensures stays { OnOk result (self.old.failed ≡ false) }
     {
         let alloc = self.alloc;
-        let line = read(alloc, line)?;
+        let line = line_in(alloc, line)?;
         let shown = self.shown()?;
         let turn = self.turn(alloc, line, steps)?;
         let written = self.written_past(shown)?;

@@ -4,7 +4,8 @@ ghost use Rattle.dp_wire.specs.Frames.{command_limit};
 ghost use Rattle.dp_engine.specs.Refusals.{refusal_of_line};
 ghost use Rattle.dp_engine.specs.Session.{moments_so_far, steps_between};
 ghost use Rattle.dp_engine.specs.Wishes.{wishes_of};
-ghost use Rattle.dp_engine.specs.inner.Sizes.{AreShortNames, IsShort, IsShortLine, IsShortRequest};
+ghost use Rattle.dp_engine.specs.ShortLines.{IsShort, IsShortLine};
+ghost use Rattle.dp_engine.specs.inner.Sizes.{AreShortNames, IsShortRequest};
 
 use crate::refusals::{feature_refusal, read_command};
 use crate::replies::{Turn, detach, refuse, stop, tell, tell_behind, tell_feature, tell_status};

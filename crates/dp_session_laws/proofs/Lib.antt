@@ -3,5 +3,5 @@ pub mod Outputs
 pub mod WatchedRuns
 pub mod Whole
 pub mod ReplyLaws
-pub mod PassedMoments
+pub mod PassingAnswers
 pub mod OutputPieces

@@ -63,7 +63,8 @@ use Rattle.dp_engine.specs.Responses.{init_text, main_name, response, response_t
 use Rattle.dp_engine.specs.Served.{alone, answers}
 use Rattle.dp_session_laws.specs.AllOutput.{AreBytes}
 use Rattle.dp_engine.specs.Session.{State, breaks_of, here, opening, program_of, stop_of, written_between}
-use Rattle.dp_engine.specs.inner.Sizes.{AreShortNames, Fits, IsShort, IsShortLine, IsShortRequest}
+use Rattle.dp_engine.specs.ShortLines.{IsShort, IsShortLine}
+use Rattle.dp_engine.specs.inner.Sizes.{AreShortNames, Fits, IsShortRequest}
 use Rattle.dp_engine.specs.States.{phase_name, reason_name}
 use Rattle.dp_engine.proofs.ResponseSizes.{fault_fits, feature_fits_if, init_fits, request_short, set_fits, status_fits, success_fits}
 use Rattle.dp_engine.proofs.StreamPackets.{both_texts, sent_texts}

@@ -1,4 +1,3 @@
 pub mod AllOutput
-pub mod Passed
 pub mod Pieces
 pub mod Shown

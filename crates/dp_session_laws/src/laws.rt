@@ -11,6 +11,7 @@ ghost use Rattle.dp_command.specs.declared.command.Request.TheVariants.{Look, Wr
 ghost use Rattle.dp_command.specs.declared.command.WriteRequest.{WriteRequest};
 ghost use Rattle.dp_command.specs.declared.line.Line.{Line};
 ghost use Rattle.dp_engine.specs.Answers.{answer, command_in, id_in, turn};
+ghost use Rattle.dp_engine.specs.Passed.{passed_all, StopsPast};
 ghost use Rattle.dp_engine.specs.Passes.{arrived, departing};
 ghost use Rattle.dp_engine.specs.Refusals.{refusal};
 ghost use Rattle.dp_outside.specs.Names.{key_limit};
@@ -21,7 +22,6 @@ ghost use Rattle.dp_engine.specs.Served.{writes, writes_with};
 ghost use Rattle.dp_conversation.specs.Growth.{Begins};
 ghost use Rattle.dp_session_laws.specs.AllOutput.{all_output, all_output_with, AreBytes, IsRunWith};
 ghost use Rattle.dp_session_laws.specs.AllOutput.{NeverRedirects};
-ghost use Rattle.dp_session_laws.specs.Passed.{passed_all, StopsPast};
 ghost use Rattle.dp_session_laws.specs.Pieces.{AreFull};
 ghost use Rattle.dp_engine.specs.Session.{depth_at, opening, output_so_far, State};
 ghost use Rattle.dp_session_laws.specs.Shown.{IsAccepted, IsInRun, IsShown, IsTaken, WritesNothing};

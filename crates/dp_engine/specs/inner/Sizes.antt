@@ -1,12 +1,9 @@
--- Lines, requests and responses that are short enough for a packet.
-use Rattle.std.specs.Prelude.{◌≤◌, length, Option, Some, None}
-use Rattle.std.specs.List.{AllByRecursion}
-use Rattle.dp_command.specs.Grammar.{command_name_limit}
+-- Requests, news and responses that are short enough for a packet.
+use Rattle.std.specs.Prelude.{◌≤◌, length}
 use Rattle.dp_command.specs.declared.command.Request.{Request}
 use Rattle.dp_command.specs.declared.command.Request.TheVariants.{Session}
 use Rattle.dp_command.specs.declared.command.SessionRequest.{SessionRequest}
 use Rattle.dp_command.specs.declared.command.SessionRequest.TheVariants.{FeatureGet, FeatureSet}
-use Rattle.dp_command.specs.declared.line.Line.{Line}
 use Rattle.dp_packet.specs.declared.packet.Notify.{Notify}
 use Rattle.dp_packet.specs.declared.packet.Packet.TheVariants as packet
 use Rattle.dp_packet.specs.declared.packet.Response.{Response}
@@ -14,15 +11,6 @@ use Rattle.dp_packet.specs.Packets.{HasMessage}
 use Rattle.dp_packet.specs.Text.{text}
 use Rattle.dp_wire.specs.Frames.{command_limit, packet_limit}
 use Rattle.dp_engine.specs.Responses.{response_text}
-
--- the name and the values of a line that a command may have
-pub record IsShort (line : Line) : Type 0 where
-  pub name : length line.name ≤ command_name_limit
-  pub values : AllByRecursion (λ o. length o.1 ≤ command_limit) line.options
-
-abbrev pub IsShortLine : Option Line → Type 0
-IsShortLine None = Unit {0}
-IsShortLine (Some line) = IsShort line
 
 -- the names that a request holds and its response repeats
 abbrev pub AreShortNames : SessionRequest → Type 0

@@ -1,4 +1,5 @@
-use Rattle.dp_session_laws.proofs.PassedMoments.{comes_to_stop, passing_answers}
+use Rattle.dp_engine.proofs.PassedMoments.{comes_to_stop}
+use Rattle.dp_session_laws.proofs.PassingAnswers.{passing_answers}
 use Rattle.dp_session_laws.proofs.laws.passing_is_answering.Goals as goal
 
 pub returns-clause-comes : goal.returns-clause-comes

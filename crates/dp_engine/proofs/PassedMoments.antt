@@ -1,42 +1,33 @@
 -- A continuation that is passed moment by moment comes to where it goes on to at once.
-use Rattle.std.proofs.Common.{◌≡◌, ◌≢◌, ℕ, zero, suc, ◌+◌, ◌≤◌, Bool, true, false, cond, ◌||◌, List, [], ◌∷◌, ◌++◌, drop, length, Option, Some, None, refl, sym, ap, ◌∙◌, append-nil, arith}
-use Rattle.std.specs.Prelude.{option_and_then, option_map, slice_get}
+use Rattle.std.proofs.Common.{◌≡◌, ◌≢◌, ℕ, zero, suc, ◌+◌, ◌<◌, ◌≤◌, Bool, true, false, cond, ◌||◌, List, [], ◌∷◌, drop, length, Option, Some, None, refl, sym, ap, ◌∙◌, arith}
+use Rattle.std.specs.Prelude.{option_and_then, slice_get}
 use Rattle.std.proofs.lemmas.Option.{slice_get_within}
 use Rattle.dp_break.specs.declared.breakpoint.Breakpoint.{Breakpoint}
 use Rattle.dp_break.specs.StopRule.{Moments, found, held_after, one_stops}
 use Rattle.dp_break.proofs.CountLaws.{found-held, found-stop}
 use Rattle.dp_command.specs.declared.command.Command.{Command}
 use Rattle.dp_command.specs.declared.command.Continuation.{Continuation}
-use Rattle.dp_command.specs.declared.command.Request.{Request}
-use Rattle.dp_command.specs.declared.command.Request.TheVariants.{Session}
-use Rattle.dp_command.specs.declared.command.SessionRequest.TheVariants.{Continue}
 use Rattle.dp_command.specs.declared.line.Line.{Line}
-use Rattle.dp_command.specs.declared.names.CommandName.{CommandName}
-use Rattle.dp_command.specs.Commands.{command_as, command_of, request_of}
-use Rattle.dp_command.specs.Lines.{line_of}
-use Rattle.dp_command.specs.Names.{name_of}
-use Rattle.dp_command.specs.Refusals.{id_of}
+use Rattle.dp_command.specs.Commands.{command_of}
 use Rattle.dp_packet.specs.declared.error_codes.ErrorCode.{ErrorCode}
-use Rattle.dp_packet.specs.Parts.{Text}
 use Rattle.dp_state.specs.declared.moments.Moment.{Moment}
 use Rattle.dp_state.specs.declared.state.State.{State as Program}
 use Rattle.dp_engine.specs.declared.passes.Passing.TheVariants.{On, Stop, End}
 use Rattle.dp_engine.specs.declared.states.Phase.{Phase}
 use Rattle.dp_engine.specs.declared.states.Phase.TheVariants.{Starting, Break, Stopping}
-use Rattle.dp_engine.specs.Answers.{advanced, answer, command_in, continued, gone_on, id_in, moved, performed, sent, state_response, to_ide, to_program, turn, turn_by_command, turn_of}
+use Rattle.dp_engine.specs.Answers.{moved}
 use Rattle.dp_engine.specs.NextStop.{every, stop_past, stops_next, table_past}
-use Rattle.dp_engine.specs.Passes.{arrived, departing, going_by, going_in, passed, passed_by, passed_on, passing_at, passing_by, passing_on}
+use Rattle.dp_engine.specs.Passed.{StopsPast, passed_all}
+use Rattle.dp_engine.specs.Passes.{departing, going_by, passed, passed_by, passed_on, passing, passing_at, passing_by, passing_on}
 use Rattle.dp_engine.specs.Refusals.{refusal_of_line}
-use Rattle.dp_engine.specs.Responses.{response_text}
-use Rattle.dp_engine.specs.Session.{State, breaks_of, depth_at, output_so_far, stop_of, trace_of}
+use Rattle.dp_engine.specs.Session.{State, depth_at, trace_of}
 use Rattle.dp_engine.specs.Stops.{stops}
 use Rattle.dp_engine.proofs.Lists.{drop-past}
-use Rattle.dp_engine.proofs.StopMoments.{found_next, next_stop}
-use Rattle.dp_session_laws.specs.Passed.{StopsPast, passed_all}
+use Rattle.dp_engine.proofs.StopMoments.{found_next, next_stop, stop_is, stop_is_there}
 
 -- ---- one moment
 
-abbrev moments_of : State → Moments
+abbrev pub moments_of : State → Moments
 moments_of state = (trace_of state).moments
 
 -- what is found past the current moment by a test
@@ -45,15 +36,19 @@ found_by test state =
     found test state.bundle state.breaks.held state.moment (drop state.moment (moments_of state))
 
 -- where a session stands that has come to what was found
-abbrev come : State → Option ℕ × List Breakpoint → State
+abbrev pub come : State → Option ℕ × List Breakpoint → State
 come state f = moved (record state { breaks = record state.breaks { held = f.1 } }) f.0
 
--- where it stands that goes on by a test
-abbrev gone_by : (Moment → Bool) → State → State
+-- the moment at which it stops that goes on by a test, if it stops
+abbrev pub stop_by : (Moment → Bool) → State → Option ℕ
+stop_by test state = stop_past test state.bundle state.bound state.writes state.breaks.held state.moment
+
+-- where it stands then
+abbrev pub gone_by : (Moment → Bool) → State → State
 gone_by test state =
     moved (record state {
       breaks = table_past test state.bundle state.bound state.writes state.breaks state.moment;
-    }) (stop_past test state.bundle state.bound state.writes state.breaks.held state.moment)
+    }) (stop_by test state)
 
 come_is : (test : Moment → Bool) (state : State) → come state (found_by test state) ≡ gone_by test state
 come_is test state = λ i. moved (record state {
@@ -145,8 +140,22 @@ module _ (mode : Continuation) (depth : ℕ) (state : State) where
           ∙ come_again state left (state.moment + 1) later ∙ sym (goes false e),
     )
 
--- what one moment comes to
-data Comes (mode : Continuation) (depth : ℕ) (state : State) : Type 0 where
+    -- and then it stops where it did, past that moment
+    stops_as_before : false ≡ here → stop_by test (passed_on state) ≡ stop_by test state
+    stops_as_before e =
+        ap (stop_by test) comes
+        ∙ sym (stop_is test state.bundle state.moment (moments_of state) state.breaks.held at is false e
+        ∙ found-stop state.bundle test left (state.moment + 1) (drop (state.moment + 1) (moments_of state)))
+
+    stops_above : false ≡ here → (n : ℕ) → stop_by test state ≡ Some n → state.moment + 1 < n
+    stops_above e n is_stop =
+        let past = ap (stop_by test) (sym comes) ∙ stops_as_before e ∙ is_stop in
+        let place = stop_is_there test state.bundle left (state.moment + 1) (moments_of state) n past in
+        omega (arith, place.2, place.3)
+
+-- What one moment comes to: the program does not go on there, and it stands where it goes on to at
+-- once; or it goes on, the way from there comes to the same, and a moment has come.
+pub data Comes (mode : Continuation) (depth : ℕ) (state : State) : Type 0 where
   stop : passing_on mode depth state ≢ On → passed_on state ≡ gone_by (stops mode depth) state
       → Comes mode depth state
   on : passing_on mode depth state ≡ On
@@ -154,7 +163,7 @@ data Comes (mode : Continuation) (depth : ℕ) (state : State) : Type 0 where
       → (left : List Breakpoint) → passed_on state ≡ come state (Some (state.moment + 1), left)
       → suc state.moment ≤ length (moments_of state) → Comes mode depth state
 
-one_comes : (mode : Continuation) (depth : ℕ) (state : State) → Comes mode depth state
+pub one_comes : (mode : Continuation) (depth : ℕ) (state : State) → Comes mode depth state
 one_comes mode depth state = by (slice_get (moments_of state) state.moment) refl where
   by_test : (at : Moment × Program) (is : slice_get (moments_of state) state.moment ≡ Some at) (b : Bool)
       → b ≡ (stops mode depth at.0 || one_stops state.bundle state.breaks.held [] at) → Comes mode depth state
@@ -173,26 +182,72 @@ one_comes mode depth state = by (slice_get (moments_of state) state.moment) refl
 
 -- ---- before the end
 
-passed_before : (phase : Phase) (state : State) → phase ≢ Stopping → passed_by phase state ≡ passed_on state
+pub passed_before : (phase : Phase) (state : State) → phase ≢ Stopping → passed_by phase state ≡ passed_on state
 passed_before Starting state n = refl
 passed_before Break state n = refl
 passed_before Stopping state n = absurd (n refl)
 
-passing_before : (phase : Phase) (mode : Continuation) (depth : ℕ) (state : State) → phase ≢ Stopping
+pub passing_before : (phase : Phase) (mode : Continuation) (depth : ℕ) (state : State) → phase ≢ Stopping
     → passing_by phase mode depth state ≡ passing_on mode depth state
 passing_before Starting mode depth state n = refl
 passing_before Break mode depth state n = refl
 passing_before Stopping mode depth state n = absurd (n refl)
 
 -- a session that goes on is in a break
-still_before : (state next : State) (left : List Breakpoint) → next ≡ come state (Some (state.moment + 1), left)
+pub still_before : (state next : State) (left : List Breakpoint) → next ≡ come state (Some (state.moment + 1), left)
     → next.phase ≢ Stopping
 still_before state next left e f =
     let no : Break ≡ Stopping = sym (ap (λ (s : State). s.phase) e) ∙ f in absurd cc
 
+-- a moment at which it goes on comes before the end
+pub on_before : (phase : Phase) (mode : Continuation) (depth : ℕ) (state : State)
+    → passing_by phase mode depth state ≡ On → phase ≢ Stopping
+on_before Starting mode depth state e over = cc
+on_before Break mode depth state e over = cc
+on_before Stopping mode depth state e over = let no : End ≡ On = e in cc
+
+-- ---- where it stops, from a moment at which it goes on
+
+module _ (mode : Continuation) (depth : ℕ) (state : State) (is_on : passing mode depth state ≡ On) where
+  before_end : state.phase ≢ Stopping
+  before_end = on_before state.phase mode depth state is_on
+
+  on_at_once : passing_on mode depth state ≡ On
+  on_at_once = sym (passing_before state.phase mode depth state before_end) ∙ is_on
+
+  -- a moment comes, at which nothing stops
+  abbrev ComesBy : Type 0
+  ComesBy =
+      (at : Moment × Program)
+      × (slice_get (moments_of state) state.moment ≡ Some at)
+      × (false ≡ (stops mode depth at.0 || one_stops state.bundle state.breaks.held [] at))
+
+  comes_by : ComesBy
+  comes_by = by (slice_get (moments_of state) state.moment) refl where
+    by_test : (at : Moment × Program) (is : slice_get (moments_of state) state.moment ≡ Some at) (b : Bool)
+        → b ≡ (stops mode depth at.0 || one_stops state.bundle state.breaks.held [] at) → ComesBy
+    by_test at is true e =
+        let no : Stop ≡ On = sym (stops_there mode depth state at is e).0 ∙ on_at_once in absurd cc
+    by_test at is false e = (at, is, e)
+
+    by : (o : Option (Moment × Program)) → slice_get (moments_of state) state.moment ≡ o → ComesBy
+    by None e = let no : End ≡ On = sym (ends mode depth state e) ∙ on_at_once in absurd cc
+    by (Some at) e = by_test at e _ refl
+
+  -- past that moment it stops where it does from before
+  pub stop_stays : stop_by (stops mode depth) (passed state) ≡ stop_by (stops mode depth) state
+  stop_stays =
+      ap (stop_by (stops mode depth)) (passed_before state.phase state before_end)
+      ∙ stops_as_before mode depth state comes_by.0 comes_by.1 comes_by.2
+
+  -- and that is above the moment
+  pub stop_is_above : (n : ℕ) → stop_by (stops mode depth) state ≡ Some n → state.moment + 1 < n
+  stop_is_above n e = stops_above mode depth state comes_by.0 comes_by.1 comes_by.2 n e
+
 -- ---- moment after moment
 
-passes_all : (mode : Continuation) (depth k : ℕ) (state : State) → state.phase ≢ Stopping
+-- past all its moments it stands where it goes on to at once
+pub passes_all : (mode : Continuation) (depth k : ℕ) (state : State) → state.phase ≢ Stopping
     → StopsPast k mode depth state → passed_all (suc k) state ≡ gone_by (stops mode depth) state
 passes_all mode depth zero state before last = by (one_comes mode depth state) where
   by : Comes mode depth state → passed state ≡ gone_by (stops mode depth) state
@@ -237,7 +292,7 @@ comes_within mode depth (suc room) state before enough =
 -- ---- a command
 
 -- a continuation goes on before the end
-goes_before : (state : State) (line : Option Line) (mode : Continuation) → departing state line ≡ Some mode
+pub goes_before : (state : State) (line : Option Line) (mode : Continuation) → departing state line ≡ Some mode
     → state.phase ≢ Stopping
 goes_before state line mode asked over =
     by (refusal_of_line state line) (option_and_then command_of line)
@@ -248,72 +303,9 @@ goes_before state line mode asked over =
       by None None e = cc
       by None (Some command) e = cc
 
+-- it comes to a stop, or to the end
 pub comes_to_stop : (state : State) (line : Option Line) (mode : Continuation) → departing state line ≡ Some mode
     → (k : ℕ) × StopsPast k mode (depth_at state) state
 comes_to_stop state line mode asked =
     comes_within mode (depth_at state) (length (moments_of state)) state (goes_before state line mode asked)
     (omega arith)
-
-module _ (state : State) (mode : Continuation) where
-  goes_on_by : (command id : Text) (phase : Phase) (r : Request) → state.phase ≡ phase → going_in phase r ≡ Some mode
-      → performed command id r state ≡ advanced command id mode state
-  goes_on_by command id Starting (Session (Continue m)) at e =
-      let same : m ≡ mode = cc in
-      ap (λ (p : Phase). continued command id m p state) at
-      ∙ ap (λ (m : Continuation). advanced command id m state) same
-  goes_on_by command id Break (Session (Continue m)) at e =
-      let same : m ≡ mode = cc in
-      ap (λ (p : Phase). continued command id m p state) at
-      ∙ ap (λ (m : Continuation). advanced command id m state) same
-  goes_on_by command id Stopping r at e = absurd cc
-  goes_on_by command id Starting (Session r) at e = absurd cc
-  goes_on_by command id Break (Session r) at e = absurd cc
-  goes_on_by command id Starting r at e = absurd cc
-  goes_on_by command id Break r at e = absurd cc
-
-  line_goes : (line : Option Line) (code : Option ErrorCode)
-      → going_by code state.phase (option_and_then command_of line) ≡ Some mode
-      → turn_of line code state ≡ advanced (command_in line) (id_in line) mode state
-  line_goes line (Some code) e = absurd cc
-  line_goes None None e = absurd cc
-  line_goes (Some line) None e = by (name_of line.name) e where
-    by : (name : Option CommandName) → going_by None state.phase (option_map (command_as line) name) ≡ Some mode
-        → turn_by_command line.name (id_of line) (option_map (command_as line) name) state
-        ≡ advanced line.name (id_of line) mode state
-    by None e = absurd cc
-    by (Some name) e = goes_on_by line.name (id_of line) state.phase (request_of name line) refl e
-
--- where output goes stays
-moved_stdout : (state : State) (stop : Option ℕ) → (moved state stop).stdout ≡ state.stdout
-moved_stdout state None = refl
-moved_stdout state (Some n) = refl
-
-pub passing_answers : (state : State) (bytes : List ℕ) (mode : Continuation) (k : ℕ)
-    → departing state (line_of bytes) ≡ Some mode → StopsPast k mode (depth_at state) state
-    → arrived (command_in (line_of bytes)) (id_in (line_of bytes)) (length (output_so_far state))
-    (passed_all (k + 1) state) ≡ answer state bytes
-unfolding answer turn
-passing_answers state bytes mode k asked past =
-    let command = command_in (line_of bytes) in
-    let id = id_in (line_of bytes) in
-    let shown = length (output_so_far state) in
-    let gone = gone_on mode state in
-    let more : k + 1 ≡ suc k = omega arith in
-    let out : gone.stdout ≡ state.stdout =
-    moved_stdout (record state { breaks = breaks_of mode state }) (stop_of mode state) in
-    ap (λ (n : ℕ). arrived command id shown (passed_all n state)) more
-    ∙ ap (arrived command id shown)
-    (passes_all mode (depth_at state) k state (goes_before state (line_of bytes) mode asked) past)
-    ∙ (λ i. record {
-      packets = to_ide (out i) (drop shown (output_so_far gone)) ++ response_text (state_response command id gone) ∷ [];
-      program = to_program (out i) (drop shown (output_so_far gone));
-      state = gone;
-      ended = None;
-    })
-    ∙ ap (λ (l : List Text). record {
-      packets = l ++ response_text (state_response command id gone) ∷ [];
-      program = to_program state.stdout (drop shown (output_so_far gone));
-      state = gone;
-      ended = None;
-    }) (sym (append-nil (to_ide state.stdout (drop shown (output_so_far gone)))))
-    ∙ ap (sent state) (sym (line_goes state mode (line_of bytes) (refusal_of_line state (line_of bytes)) asked))
