@@ -179,8 +179,8 @@ module _ {S E X Y : Type 0} (step : S → List ℕ → Reply S E) (told : X → 
       (y0 y1 y2 : Y)
       → (talk : Conversation step start state init read held source (change told faults x0 x1)
       (change prints fails y0 y1)) → (replies step start talk.taken).ended ≡ None
-      → length read ≤ byte_limit → (up_to : IsReadUpTo step start piece_limit read) → talk.taken ≡ commands_in up_to.front
-      → faults x0 ≤ faults x1 → fails y0 ≤ fails y1
+      → length read ≤ byte_limit → (up_to : IsReadUpTo step start piece_limit read)
+      → talk.taken ≡ commands_in up_to.front → faults x0 ≤ faults x1 → fails y0 ≤ fails y1
       → CutsShort step state now (commands_in held) fault (change told faults x1 x2) (change prints fails y1 y2)
       → IsConversationCut step start now init fault source (change told faults x0 x2) (change prints fails y0 y2)
   talk_cut start state now init read held fault source x0 x1 x2 y0 y1 y2 talk goes_on within up_to before x_later

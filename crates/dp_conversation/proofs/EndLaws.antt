@@ -126,17 +126,17 @@ all_taken read held taken stands partial =
 -- What was read ends with this piece, before which the session went on: its commands had not ended it, and part of one
 -- was held.
 pub read_up_to : {S E : Type 0} (step : S → List ℕ → Reply S E) (start : S) (front held piece read : List ℕ)
-    (taken : List (List ℕ)) → HasTaken front held taken → (replies step start taken).ended ≡ None
-    → IsPartialCommand held → read ≡ front ++ piece → length piece ≤ piece_limit → IsReadUpTo step start piece_limit read
-read_up_to {S} {E} step start front held piece read taken stands goes_on partial whole short =
+    (done : List (List ℕ)) → HasTaken front held done → (replies step start done).ended ≡ None → IsPartialCommand held
+    → read ≡ front ++ piece → length piece ≤ piece_limit → IsReadUpTo step start piece_limit read
+read_up_to {S} {E} step start front held piece read done stands goes_on partial whole short =
     let none = no_more_partial held partial in
     record {
       front = front;
       piece = piece;
       whole = whole;
       short = short;
-      goes_on = ap (λ (r : Reply S E). r.ended) (over_left step start front held taken stands none) ∙ goes_on;
-      partial = subst IsPartialCommand (rest_is step start front held taken stands none) partial;
+      goes_on = ap (λ (r : Reply S E). r.ended) (over_left step start front held done stands none) ∙ goes_on;
+      partial = subst IsPartialCommand (rest_is step start front held done stands none) partial;
     }
 
 -- and the commands before it are those that were taken

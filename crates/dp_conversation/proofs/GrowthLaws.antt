@@ -2,7 +2,7 @@
 use Rattle.std.proofs.Common.{◌≡◌, ℕ, Bool, true, false, cond, leb, eqb, List, [], ◌∷◌, ◌++◌, length, Option, None, Some, refl, sym, ap, ◌∙◌, subst, append_assoc, append-nil}
 use Rattle.dp_wire.specs.Frames.{command_limit, commands_in, ended_texts, widened, up_to_limit}
 use Rattle.dp_conversation.specs.Folds.{Reply, nothing_sent, unless_ended, followed, replies}
-use Rattle.dp_conversation.specs.Growth.{served, GoesOn}
+use Rattle.dp_conversation.specs.Growth.{served, GrowsInto}
 
 -- ---- the commands of more bytes
 
@@ -41,7 +41,7 @@ commands_extend bytes more =
 -- ---- what more commands lead to
 
 module _ {S E : Type 0} where
-  goes_on_nothing : (state : S) (second : Reply S E) → GoesOn (nothing_sent state) second
+  goes_on_nothing : (state : S) (second : Reply S E) → GrowsInto (nothing_sent state) second
   goes_on_nothing state second = record {
     packets = second.packets;
     program = second.program;
@@ -50,10 +50,10 @@ module _ {S E : Type 0} where
     over = λ end e. absurd cc;
   }
 
-  goes_on_followed : (first rest longer : Reply S E) → GoesOn rest longer
-      → GoesOn (followed first rest) (followed first longer)
+  goes_on_followed : (first rest longer : Reply S E) → GrowsInto rest longer
+      → GrowsInto (followed first rest) (followed first longer)
   goes_on_followed first rest longer g = cases first.ended where
-    cases : (ended : Option E) → GoesOn (unless_ended ended first rest) (unless_ended ended first longer)
+    cases : (ended : Option E) → GrowsInto (unless_ended ended first rest) (unless_ended ended first longer)
     cases (Some end) =
         record {
           packets = [];
@@ -81,7 +81,7 @@ module _ {S E : Type 0} where
     }
 
   pub replies_go_on : (step : S → List ℕ → Reply S E) (state : S) (lines others : List (List ℕ))
-      → GoesOn (replies step state lines) (replies step state (lines ++ others))
+      → GrowsInto (replies step state lines) (replies step state (lines ++ others))
   replies_go_on step state [] others = goes_on_nothing state (replies step state others)
   replies_go_on step state (line ∷ lines) others =
       goes_on_followed (step state line) (replies step (step state line).state lines)
@@ -89,8 +89,8 @@ module _ {S E : Type 0} where
       (replies_go_on step (step state line).state lines others)
 
   pub served_goes_on : (step : S → List ℕ → Reply S E) (start : S) (bytes more : List ℕ)
-      → GoesOn (served step start bytes) (served step start (bytes ++ more))
+      → GrowsInto (served step start bytes) (served step start (bytes ++ more))
   served_goes_on step start bytes more =
       let longer = commands_extend bytes more in
-      subst (λ (l : List (List ℕ)). GoesOn (served step start bytes) (replies step start l)) (sym longer.1)
+      subst (λ (l : List (List ℕ)). GrowsInto (served step start bytes) (replies step start l)) (sym longer.1)
       (replies_go_on step start (commands_in bytes) longer.0)

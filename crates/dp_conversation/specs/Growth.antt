@@ -14,7 +14,7 @@ served step start bytes = replies step start (commands_in bytes)
 
 -- the second reply goes on where the first stands; one that has ended the session is not gone on
 -- from
-pub record GoesOn {S E : Type 0} (first second : Reply S E) : Type 0 where
+pub record GrowsInto {S E : Type 0} (first second : Reply S E) : Type 0 where
   pub packets : List (List ℕ)
   pub program : List ℕ
   pub more_packets : second.packets ≡ first.packets ++ packets

@@ -1,14 +1,14 @@
 //! What holds of sessions, whatever a command means.
 ghost use Rattle.std.specs.Prelude.{List, ℕ, ◌++◌};
 ghost use Rattle.dp_conversation.specs.NextAnswer.{FeedingGoesOn};
-ghost use Rattle.dp_conversation.specs.Growth.{served, GoesOn};
+ghost use Rattle.dp_conversation.specs.Growth.{served, GrowsInto};
 
 use crate::responder::Responder;
 
 /// More commands only add to what came before.
 pub fn one_session_grows<A: Responder>(session: &A)
     ensures { (bytes more : List ℕ)
-        → GoesOn (served A.step session.now bytes) (served A.step session.now (bytes ++ more)) }
+        → GrowsInto (served A.step session.now bytes) (served A.step session.now (bytes ++ more)) }
 {}
 
 /// What some bytes lead to goes on with more of them from the state that the session is in then, over the bytes that

@@ -81,8 +81,8 @@ enum Piece {
     Failed,
 }
 
-/// Delivers an answer: prints what the program wrote, then sends the packets, and answers how the session has ended,
-/// if it has.
+/// Prints what the program wrote, then sends the packets, each copied once; answers how the session has ended. Where
+/// the output fails nothing is sent; where link or memory do, all was printed, and a front of the packets was sent.
 pub fn deliver<T: Drop, K: Sink, E: Sink>(
     alloc: Global,
     answer: Answer<T>,
@@ -165,7 +165,7 @@ fn read_piece<A: Responder, S: Source>(
     }
 }
 
-/// Sends the packet of this text, which belongs to no command. Where that fails, a front of it was taken.
+/// Sends a copy of the packet of this text, which answers no command. Where sink or memory fail, a front was taken.
 pub fn send<T: Drop, K: Sink>(alloc: Global, text: &[u8], sink: &mut K) -> Result<(), Fault<T>>
     requires { IsPacketText text.now }
     ensures taken { PutAppends (K.taken sink.old) (K.taken sink.new) result (packet_frame text.now) }

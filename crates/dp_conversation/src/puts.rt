@@ -43,7 +43,7 @@ pub fn put_unless_empty<E: Sink>(out: &mut E, bytes: &[u8]) -> Result<(), Failed
     out.put(bytes)
 }
 
-/// Appends the packets of these texts to what is there. Where memory runs out nothing is said of what was appended.
+/// Appends the packets of these texts, each copied twice. Where memory runs out nothing is said of what was appended.
 pub fn append_packets(alloc: Global, texts: &[Bytes], sent: &mut Vec<u8>) -> Result<(), Memory>
     requires { AllByRecursion IsPacketText texts.now }
     ensures { OnOk result (sent.new.items ≡ sent.old.items ++ flat_map packet_frame texts.now) }

@@ -3,6 +3,7 @@ use Rattle.std.proofs.Common.{◌≡◌, ℕ, ◌+◌, ◌≤◌, min, Bool, tru
 use Rattle.std.proofs.Common.{is_none, refl, sym, ap, subst, ◌∙◌, append_assoc, append-nil, arith, length-append, length-take, length-drop}
 use Rattle.std.proofs.lemmas.Bool.{or_from, false≢true}
 use Rattle.std.specs.List.{AllByRecursion}
+use Rattle.dp_conversation.specs.Growth.{Begins}
 use Rattle.dp_wire.proofs.PacketLaws.{packets_split}
 use Rattle.dp_wire.specs.Frames.{IsPacketText, packet_frame, packets_in, command_frame, commands_in}
 use Rattle.dp_lanes.specs.declared.lane.LaneKind.TheVariants.{Up, Down}
@@ -20,7 +21,7 @@ use Rattle.dp_proxy.specs.Pasts.{Link, Joined, Ended, Lead, lead, acts_of}
 use Rattle.dp_proxy.proofs.ActLaws.{joined_on, joined_over, over_still}
 use Rattle.dp_proxy.proofs.HandedLaws.{all_is_handed}
 use Rattle.dp_proxy.proofs.PassLaws.{stream_push, stream_same}
-use Rattle.dp_world.proofs.EngineLaws.{Begins, grows}
+use Rattle.dp_world.proofs.EngineLaws.{grows}
 use Rattle.dp_world.proofs.HeadlineLaws.{longer, front_of, its_sent, sent_on}
 use Rattle.dp_world.specs.Alone.{Engines, alone, answers_to}
 use Rattle.dp_world.specs.Engines.{act_of, alone_on}

@@ -20,8 +20,8 @@ use Rattle.dp_wire.specs.Frames.{BeginsNoCommand, IsPartialCommand, rest_of}
 -- ---- why the session was over
 
 -- no command has ended the session, and more of one has to come
-abbrev pub GoesOn : {S E : Type 0} → Reply S E → List ℕ → Type 0
-GoesOn reply bytes = (reply.ended ≡ None) × IsPartialCommand (rest_of bytes)
+abbrev pub WantsMore : {S E : Type 0} → Reply S E → List ℕ → Type 0
+WantsMore reply bytes = (reply.ended ≡ None) × IsPartialCommand (rest_of bytes)
 
 -- a command ended it; or the offset of the first byte with which none begins; or the source gave
 -- its end
@@ -31,7 +31,7 @@ IsOver (Some offset) reply read source =
     × (offset + length (rest_of read) ≡ length read)
 IsOver {S = S} {E = E} None reply read source =
     ((end : E) × (reply.ended ≡ Some end))
-    ⊎ (GoesOn reply read × IsAtEnd source.told × (length read < byte_limit))
+    ⊎ (WantsMore reply read × IsAtEnd source.told × (length read < byte_limit))
 
 -- ---- what was written
 
@@ -65,7 +65,7 @@ pub record AreAllLines {S E : Type 0} (behaviour : Behaviour) (reply : Reply S E
 -- all was written that could be; no last line
 pub record IsLeftOpen {S E : Type 0} (behaviour : Behaviour) (reply : Reply S E) (read : List ℕ)
     (sink : Change) : Type 0 where
-  pub goes_on : GoesOn reply read
+  pub goes_on : WantsMore reply read
   pub text : List ℕ
   pub written : Appends sink.told_before sink.told text
   pub lines : AreAllLines behaviour reply read text

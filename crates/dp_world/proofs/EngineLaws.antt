@@ -8,7 +8,7 @@ use Rattle.std.proofs.lemmas.List.Concat.{flat_map-append}
 use Rattle.dp_world.specs.Alone.{Engines, alone, answers_to}
 use Rattle.dp_conversation.specs.declared.responder.Answer.{Answer}
 use Rattle.dp_conversation.specs.Folds.{Reply, followed, replies, reply_of, unless_ended}
-use Rattle.dp_conversation.specs.Growth.{served}
+use Rattle.dp_conversation.specs.Growth.{Begins, served}
 use Rattle.dp_conversation.proofs.GrowthLaws.{served_goes_on}
 use Rattle.dp_conversation.proofs.ServiceLaws.{replies_append, replies_join}
 use Rattle.dp_wire.specs.Frames.{command_frame, commands_in, rest_of, packet_frame, packets_in, rest_of_packets}
@@ -120,9 +120,6 @@ module _ {S E : Type 0} (engines : Engines S E) (bytes : List ℕ) (x y : Engine
       }
 
 -- ---- more bytes only add to what is sent
-
-abbrev pub Begins : List ℕ → List ℕ → Type 0
-Begins front bytes = (rest : List ℕ) × (bytes ≡ front ++ rest)
 
 pub grows : {S E : Type 0} (engines : Engines S E) (key bytes more : List ℕ)
     → Begins (alone engines key bytes) (alone engines key (bytes ++ more))

@@ -10,6 +10,7 @@ use Rattle.std.proofs.lemmas.List.Concat.{flat_map-append}
 use Rattle.std.proofs.Math.Seq.{drop-append_seam}
 use Rattle.dp_world.specs.Alone.{Engines, alone}
 use Rattle.dp_lanes.specs.declared.lane.LaneKind.TheVariants.{Up, Down}
+use Rattle.dp_conversation.specs.Growth.{Begins}
 use Rattle.dp_events.specs.declared.event.Act.{Act}
 use Rattle.dp_events.specs.declared.event.Act.TheVariants.{Ide, Engine, Give, Move, Close}
 use Rattle.dp_events.specs.declared.event.Event.{Event}
@@ -23,7 +24,6 @@ use Rattle.dp_proxy.proofs.ActLaws.{engine_comes, given_before, moved_before, cl
 use Rattle.dp_registry.specs.declared.entry.Entry.{Entry}
 use Rattle.dp_registry.specs.declared.pass.Pass.{Pass}
 use Rattle.dp_wire.specs.Frames.{packet_frame, packets_in}
-use Rattle.dp_world.proofs.EngineLaws.{Begins}
 use Rattle.dp_world.specs.Engines.{act_of, followed, past_of, acts_on, by_itself, alone_on}
 use Rattle.dp_world.specs.Headline.{EachReceives, IsSession, Receives}
 use Rattle.dp_world.specs.Transcript.{session_of, shown, shown_at, shown_of, transcript}

@@ -19,7 +19,7 @@ use Rattle.dp_records.specs.declared.tapes.Unput.{Unput}
 use Rattle.dp_records.specs.declared.tapes.Unput.TheVariants as unput
 use Rattle.dp_records.specs.Behaviours.{Behaviour}
 use Rattle.dp_records.specs.Records.{AreEntries, IsPiece, given, line_of, own, piece_limit, sent}
-use Rattle.dp_records.specs.Tapes.{GoesOn, HasFront, HasLines}
+use Rattle.dp_records.specs.Tapes.{HasFront, HasLines, WantsMore}
 use Rattle.dp_records.specs.Verdicts.{AgreesThroughout}
 use Rattle.dp_records.specs.inner.Audits.{sends}
 use Rattle.dp_records.specs.inner.Turns.{StopsBy}
@@ -108,7 +108,7 @@ module _ {S E : Type 0} (step : S → List ℕ → Reply S E) (start : S) (init 
   abbrev pub StopsReading : Stop E → List ℕ → Change → Type 0
   StopsReading (Finished over count) read source =
       (count ≡ length read)
-      × (GoesOn (served step start read) read → IsAtEnd source.told × (length read < byte_limit))
+      × (WantsMore (served step start read) read → IsAtEnd source.told × (length read < byte_limit))
   StopsReading Failed read source =
       Rose source.faults_before source.faults × (length read < byte_limit)
   StopsReading Full read source = length read ≡ byte_limit

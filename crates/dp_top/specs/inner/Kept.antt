@@ -28,6 +28,6 @@ pub record Continues (old new : Seen) : Type 0 where
   pub spawner : old.spawner.faults ≤ new.spawner.faults
 
 -- likewise, and they are the same objects
-pub record GoesOn (old new : Lent) : Type 0 where
+pub record LentContinues (old new : Lent) : Type 0 where
   pub names : new.names ≡ old.names
   pub seen : Continues old.seen new.seen

@@ -9,4 +9,5 @@ returns-in_err-send_packet-clause-taken g c =
     rw p.1
     (front_of_next packet_frame (g.K.Sink.taken c.args.sink.now) (g.K.Sink.taken c.loop-text.sink)
     (g.K.Sink.taken c.send_packet.new.sink) c.args.texts.now c.loop-text.text-index c.text-item.result
-    c.loop-text-test.true c.text-item.is c.loop-text.invariant.1 (rw c.as_slice.ensures at c.in_err-send_packet.ensures.taken))
+    c.loop-text-test.true c.text-item.is c.loop-text.invariant.1
+    (rw c.as_slice.ensures at c.in_err-send_packet.ensures.taken))
