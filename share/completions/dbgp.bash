@@ -18,10 +18,10 @@ _dbgp() {
     local word=${COMP_WORDS[COMP_CWORD]} command=${COMP_WORDS[1]} place first
     COMPREPLY=()
     if ((COMP_CWORD == 1)); then
-        mapfile -t COMPREPLY < <(compgen -W 'run talk tape audit engine ide proxy replay soak show' -- "$word")
+        mapfile -t COMPREPLY < <(compgen -W 'run talk tape audit dap engine ide proxy replay soak show' -- "$word")
         return
     fi
-    if ((COMP_CWORD == 2)) && [[ $word == -* && $command =~ ^(run|talk|tape|audit|engine|replay)$ ]]; then
+    if ((COMP_CWORD == 2)) && [[ $word == -* && $command =~ ^(run|talk|tape|audit|dap|engine|replay)$ ]]; then
         COMPREPLY=(--bound)
         return
     fi
@@ -34,7 +34,7 @@ _dbgp() {
         return
     fi
     case $command in
-        run | replay) first=0 ;;
+        run | dap | replay) first=0 ;;
         talk | tape | audit | ide) first=1 ;;
         engine) first=3 ;;
         *) return ;;

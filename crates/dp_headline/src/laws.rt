@@ -1,18 +1,24 @@
 //! What each IDE receives of the engines of a program.
-ghost use Rattle.std.specs.Prelude.{◌≡◌, ◌≤◌, List, ℕ, false, length};
+ghost use Rattle.std.specs.Prelude.{◌≡◌, ◌≢◌, ◌≤◌, List, ℕ, Ok, Err, false, length};
 ghost use Rattle.dp_engine.specs.Responses.{main_name};
 ghost use Rattle.dp_engine.specs.Served as session;
 ghost use Rattle.dp_events.specs.declared.event.Act.{Act};
 ghost use Rattle.dp_events.specs.declared.event.Event.{Event};
+ghost use Rattle.dp_headline.specs.Adapted.{ShowsProgram};
 ghost use Rattle.dp_lanes.specs.declared.lane.LaneKind.TheVariants.{Down};
 ghost use Rattle.dp_lanes.specs.Lanes.{is_bad};
 ghost use Rattle.dp_outside.specs.Names.{key_limit};
 ghost use Rattle.dp_proxy_laws.specs.PlainWords.{IsPlain, given_on};
 ghost use Rattle.dp_registry.specs.declared.pass.Pass.{Pass};
 ghost use Rattle.dp_session_laws.specs.AllOutput.{AreBytes};
+ghost use Rattle.dp_top.specs.Dap.{Daps, EndsSo};
 ghost use Rattle.dp_top.specs.Engines.{engines_of};
+ghost use Rattle.dp_top.specs.Failures.{Failed, status_of};
+ghost use Rattle.dp_top.specs.Seen.{Seen};
+ghost use Rattle.dp_top.specs.Statuses.{memory_status, output_status};
 ghost use Rattle.dp_tree.specs.FileNames.{file_name_limit};
 ghost use Rattle.dp_tree.specs.declared.bundle.Bundle.{Bundle};
+ghost use Rattle.dp_words.specs.Words.{Invocation};
 ghost use Rattle.dp_world.specs.Alone as world;
 ghost use Rattle.dp_world.specs.Headline.{EachReceives};
 
@@ -39,4 +45,14 @@ pub fn in_plain_words()
     ensures { (bundle : Bundle) (bound : ℕ) (key : List ℕ) (pass : Pass) (acts : List Act)
         → AreBytes (given_on acts) → length key ≤ key_limit → length (main_name bundle) ≤ file_name_limit
         → is_bad Down (given_on acts) ≡ false → IsPlain (engines_of bundle bound) key pass acts }
+{}
+
+/// Where `dap` went well, and where it failed though no output did and memory sufficed, it was served whole over the
+/// bytes that were read, what it sent and what it put on the error output behind that tell the program's run, and it
+/// reports how that ended. Where no evaluation succeeded that is the run that nobody watches.
+pub fn dap_shows_its_program()
+    ensures done { (status : ℕ) (ask : Invocation) (old new : Seen) → Daps status ask old new
+        → ShowsProgram (Ok status) ask old new }
+    ensures ended { (why : Failed) (name : List ℕ) (ask : Invocation) (old new : Seen) → EndsSo why name ask old new
+        → status_of why ≢ output_status → status_of why ≢ memory_status → ShowsProgram (Err (why, name)) ask old new }
 {}

@@ -1,6 +1,6 @@
-//! The headline, of the engines of a program.
+//! The headline, of the engines of a program, and what its gateway tells.
 #![tactic(auto)]
 
 mod laws;
 
-pub use laws::{each_ide_receives, in_plain_words, served_alone};
+pub use laws::{dap_shows_its_program, each_ide_receives, in_plain_words, served_alone};

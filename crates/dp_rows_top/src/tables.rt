@@ -2,7 +2,7 @@
 
 use crate::calls::{Wanted, call_top, compare, wanted_of};
 use crate::faults::{Faulty, Place};
-use crate::fronts::{written_by, written_to};
+use crate::fronts::{Speaker, written_by, written_to};
 use crate::objects::Setting;
 use dp_rows::{Differences, Field, Memory, Row, at_space, number_of};
 use std::alloc::Global;
@@ -12,13 +12,13 @@ use std::thread::Threads;
 /// The most calls of a table.
 const MOST_CALLS: u64 = 100_000;
 
-/// The row of a table: what its call reads, and whether it is a script's.
+/// The row of a table: what its call reads, and what speaks.
 #[derive(Drop)]
 struct Table<'a> {
     row: &'a Row<'a>,
     read: Vec<u8>,
     is_linked: bool,
-    is_script: bool,
+    speaker: Speaker,
 }
 
 impl<'a> Table<'a> {
@@ -30,15 +30,16 @@ impl<'a> Table<'a> {
         } else {
             b"in".as_slice()
         };
-        let is_script = match row.field(b"words") {
-            Some(field) => field.text.starts_with(b"ide "),
-            None => false,
+        let speaker = match row.field(b"words") {
+            Some(field) if field.text.starts_with(b"ide ") => Speaker::Script,
+            Some(field) if field.text.starts_with(b"dap ") => Speaker::Gateway,
+            _ => Speaker::Session,
         };
         Ok(Table {
             row,
             read: row.bytes(alloc, name)?,
             is_linked,
-            is_script,
+            speaker,
         })
     }
 
@@ -54,9 +55,9 @@ impl<'a> Table<'a> {
     /// What has to be written where so many bytes came.
     fn read_so_far(&self, alloc: Global, count: usize) -> Result<Wanted, Memory> {
         let mut wanted = wanted_of(alloc, self.row)?;
-        let read = self.read.get(..count).unwrap_or(self.read.as_slice());
+        let read = self.read.as_slice();
         let written = self.written(&mut wanted);
-        let length = written_to(self.is_script, written.as_slice(), read).len();
+        let length = written_to(self.speaker, written.as_slice(), read, count).len();
         written.truncate(length);
         Ok(wanted)
     }
@@ -65,7 +66,7 @@ impl<'a> Table<'a> {
     fn put_so_far(&self, alloc: Global, count: usize) -> Result<Wanted, Memory> {
         let mut wanted = wanted_of(alloc, self.row)?;
         let written = self.written(&mut wanted);
-        let length = written_by(self.is_script, written.as_slice(), count).len();
+        let length = written_by(self.speaker, written.as_slice(), count).len();
         written.truncate(length);
         Ok(wanted)
     }

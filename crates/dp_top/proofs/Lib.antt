@@ -13,3 +13,5 @@ pub mod ReplayReports
 pub mod RecordLaws
 pub mod RecordEnds
 pub mod RecordReports
+pub mod DapLaws
+pub mod DapReports

@@ -26,7 +26,7 @@ use Rattle.dp_program.specs.Runs.{RunCaused}
 use Rattle.dp_state.specs.declared.moments.Outcome.{Outcome}
 use Rattle.dp_state.specs.declared.moments.Outcome.TheVariants as way
 use Rattle.dp_top.specs.declared.failures.Refused.{Refused}
-use Rattle.dp_words.specs.Words.{Address, Invocation, IsEngine, IsProxy, IsRun, IsSoak, IsTalk, Service, Task, run, talk, tape, audit, engine, ide, replay, soak, proxy, show, IsInvocation, invocation_in, invocation_of, port_of, seed_limit, served_count_of, session_count_of, uses_net, uses_shelf, uses_spawner}
+use Rattle.dp_words.specs.Words.{Address, Invocation, IsEngine, IsProxy, IsRun, IsSoak, IsTalk, Service, Task, run, talk, tape, audit, dap, engine, ide, replay, soak, proxy, show, IsInvocation, invocation_in, invocation_of, port_of, seed_limit, served_count_of, session_count_of, uses_net, uses_shelf, uses_spawner}
 use Rattle.dp_outside.specs.Links.{CountsReturned}
 use Rattle.dp_top.specs.Engine.{EngineFails, EndsSo as EngineEnds}
 use Rattle.dp_top.specs.Links.{IsDialled}
@@ -43,6 +43,7 @@ use Rattle.dp_top.specs.Soak.{SoakFails}
 use Rattle.dp_top.specs.Talk.{EndReport, EndsSo, TalkFails, ended, judged_by}
 use Rattle.dp_top.specs.Tasks.{failure_of, ShowCaused, Does, Caused, Fails, IsFetchedFor, before_line}
 use Rattle.dp_top.proofs.RunReports.{bad_source, nothing_fetched}
+use Rattle.dp_top.proofs.DapLaws.{dap_starved}
 use Rattle.dp_top.proofs.RecordLaws.{audit_starved, tape_starved}
 use Rattle.dp_program.proofs.GrownNames.{grown_by_none}
 
@@ -98,11 +99,12 @@ asked_by name behind =
     else (if bytes_eq name (codes "talk") then asked_behind asked_talk behind
     else (if bytes_eq name (codes "tape") then asked_behind asked_tape behind
     else (if bytes_eq name (codes "audit") then asked_behind asked_audit behind
+    else (if bytes_eq name (codes "dap") then option_map dap (invocation_of behind)
     else (if bytes_eq name (codes "engine") then asked_behind asked_engine behind
     else (if bytes_eq name (codes "ide") then asked_ide behind
     else (if bytes_eq name (codes "replay") then asked_behind asked_replay behind
     else (if bytes_eq name (codes "soak") then asked_soak behind
-    else (if bytes_eq name (codes "proxy") then asked_proxy behind else Some show))))))))
+    else (if bytes_eq name (codes "proxy") then asked_proxy behind else Some show)))))))))
 
 abbrev asked : List (List ℕ) → Option Task
 asked [] = None
@@ -119,6 +121,7 @@ asked_so words (tape key ask) h =
 asked_so words (audit key ask) h =
     ap asked h.words_are
     ∙ ap (option_and_then (λ (a : Invocation). asked_audit a.bound a.names)) h.speaks.invocation
+asked_so words (dap ask) h = ap asked h.words_are ∙ ap (option_map dap) h.follows.invocation
 asked_so words (engine address key ask) h =
     ap asked h.words_are
     ∙ ap (option_and_then (λ (a : Invocation). asked_engine a.bound a.names)) h.dials.invocation
@@ -192,6 +195,7 @@ memory_name (run ask) name = []
 memory_name (talk key ask) name = name
 memory_name (tape key ask) name = name
 memory_name (audit key ask) name = name
+memory_name (dap ask) name = name
 memory_name (engine address key ask) name = name
 memory_name (ide port script) name = name
 memory_name (replay events ask) name = name
@@ -254,6 +258,7 @@ memory_instead failed name (run ask) old new h =
 memory_instead failed name (talk key ask) old new h = (talk_starved failed name key ask old new h.0, h.1)
 memory_instead failed name (tape key ask) old new h = (tape_starved failed name key ask old new h.0, h.1)
 memory_instead failed name (audit key ask) old new h = (audit_starved failed name key ask old new h.0, h.1)
+memory_instead failed name (dap ask) old new h = (dap_starved failed name ask old new h.0, h.1)
 memory_instead failed name (engine address key ask) old new h = engine_starved failed name address key ask old new h
 memory_instead failed name (ide port script) old new h = ide_starved failed name port script old new h
 memory_instead failed name (replay events ask) old new h =
@@ -539,6 +544,7 @@ done_offline status (run ask) old new h e = h.3
 done_offline status (talk key ask) old new h e = h.1
 done_offline status (tape key ask) old new h e = h.1
 done_offline status (audit key ask) old new h e = h.1
+done_offline status (dap ask) old new h e = h.1
 done_offline status (engine address key ask) old new h e = absurd cc
 done_offline status (ide port script) old new h e = absurd cc
 done_offline status (replay events ask) old new h e = h.3
@@ -552,6 +558,7 @@ caused_offline failed name (run ask) old new h e = h.3
 caused_offline failed name (talk key ask) old new h e = h.1
 caused_offline failed name (tape key ask) old new h e = h.1
 caused_offline failed name (audit key ask) old new h e = h.1
+caused_offline failed name (dap ask) old new h e = h.1
 caused_offline failed name (engine address key ask) old new h e = absurd cc
 caused_offline failed name (ide port script) old new h e = absurd cc
 caused_offline failed name (replay events ask) old new h e = h.3
@@ -690,6 +697,7 @@ none_fetched (run ask) told = nothing_fetched (Some ask) told
 none_fetched (talk key ask) told = nothing_fetched (Some ask) told
 none_fetched (tape key ask) told = nothing_fetched (Some ask) told
 none_fetched (audit key ask) told = nothing_fetched (Some ask) told
+none_fetched (dap ask) told = nothing_fetched (Some ask) told
 none_fetched (engine address key ask) told = nothing_fetched (Some ask) told
 none_fetched (ide port script) told = (0, grown_by_none told)
 none_fetched (replay events ask) told = (0, grown_by_none told)

@@ -1,6 +1,6 @@
 -- The answer of the top call, by how it came to it.
 use Rattle.std.proofs.Common.{◌≡◌, ◌⊎◌, ℕ, ◌<◌, ◌≤◌, false, List, Ok, Err, refl, arith, inl, inr, codes}
-use Rattle.dp_words.specs.Words.{IsInvocation, Task, run, talk, tape, audit, engine, ide, replay, soak, proxy, show}
+use Rattle.dp_words.specs.Words.{IsInvocation, Task, run, talk, tape, audit, dap, engine, ide, replay, soak, proxy, show}
 use Rattle.dp_words.specs.Plain.{are_plain}
 use Rattle.dp_top.specs.declared.failures.Refused.{Refused}
 use Rattle.dp_top.specs.Failures.{status_of, line_of, Says}
@@ -8,6 +8,7 @@ use Rattle.dp_top.specs.Seen.{NoneRose, Seen, Stream, changed}
 use Rattle.dp_top.specs.Tasks.{Fails, before_line}
 use Rattle.dp_top.specs.Top.{Answers}
 use Rattle.dp_top.specs.inner.Carried.{IsCarriedOut}
+use Rattle.dp_top.proofs.DapReports.{complete_dap_told}
 use Rattle.dp_top.proofs.IdeLaws.{complete_ide_told, plays_well, script_held_told, script_refused_done, script_refused_told}
 use Rattle.dp_top.proofs.RecordReports.{audits_well, complete_audit_told, complete_tape_told}
 use Rattle.dp_top.proofs.ReplayReports.{asks_replay, complete_replay_told, list_held_told, list_refused_done, list_refused_told, replays_well}
@@ -34,6 +35,7 @@ usage_answers words old err none says later = record {
   complete_talk = λ key ask program is made still. absurd (none (talk key ask) is);
   complete_tape = λ key ask program is made still. absurd (none (tape key ask) is);
   complete_audit = λ key ask program is made still. absurd (none (audit key ask) is);
+  complete_dap = λ ask program is made still. absurd (none (dap ask) is);
   complete_engine = λ address key ask program is made still. absurd (none (engine address key ask) is);
   refused = λ task ask why is asked makes. absurd (none task is);
   complete_show = λ is still. absurd (none show is);
@@ -88,6 +90,7 @@ unread_answers words old err plain says later = record {
   complete_talk = λ key ask program is made still. inr (inr (inr (inr refl)));
   complete_tape = λ key ask program is made still. inr (inr (inr (inr refl)));
   complete_audit = λ key ask program is made still. inr (inr (inr refl));
+  complete_dap = λ ask program is made still. inr (inr (inr (inr refl)));
   complete_engine = λ address key ask program is made still. inr (inr (inr (inr refl)));
   refused = λ task ask why is asked makes. inr (inl refl);
   complete_show = λ is still. inr (inr (inr refl));
@@ -135,6 +138,7 @@ done_answers status words task old new asks plain carried = record {
   complete_tape = λ key ask program is made still. inl carried.status;
   complete_audit = λ key ask program is made still.
       inl (audits_well status words task old new asks carried.ends key ask is);
+  complete_dap = λ ask program is made still. inl carried.status;
   complete_engine = λ address key ask program is made still. inl carried.status;
   refused = λ other ask why is asked makes.
       absurd ((carried.held ask (asks_program words task other ask asks is asked)).by_files (Err why) makes);
@@ -221,6 +225,9 @@ module _ (status : ℕ) (words : List (List ℕ)) (task : Task) (refused : Refus
     complete_audit = λ key ask program is made still.
         complete_audit_told status words task old mid refused _ _ asks carried.ends carried.held told key ask program is
         made (still_before still);
+    complete_dap = λ ask program is made still.
+        complete_dap_told status words task old mid refused _ _ asks carried.ends carried.held told ask program is made
+        (still_before still);
     complete_engine = λ address key ask program is made still.
         complete_engine_told status words task old mid refused _ _ asks carried.ends carried.held told address key ask
         program is made (still_before still);

@@ -13,6 +13,7 @@ pub mod Soak
 pub mod Sources
 pub mod Statuses
 pub mod Talk
+pub mod Dap
 pub mod Tasks
 pub mod Top
 pub mod inner

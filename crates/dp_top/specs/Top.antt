@@ -6,7 +6,7 @@ use Rattle.dp_ide.specs.declared.instruction.Instruction.{Instruction}
 use Rattle.dp_events.specs.declared.event.Event.{Event}
 use Rattle.dp_program.specs.Programs.{FilesMake}
 use Rattle.dp_tree.specs.declared.bundle.Bundle.{Bundle}
-use Rattle.dp_words.specs.Words.{Address, Invocation, IsAudit, IsEngine, IsIde, IsInvocation, IsProxy, IsReplay, Service}
+use Rattle.dp_words.specs.Words.{Address, Invocation, IsAudit, IsDap, IsEngine, IsIde, IsInvocation, IsProxy, IsReplay, Service}
 use Rattle.dp_words.specs.Words.{IsRun, IsSoak, IsTalk, IsTape, Task, show, invocation_in, uses_net, uses_shelf, uses_spawner}
 use Rattle.dp_words.specs.Plain.{are_plain}
 use Rattle.dp_top.specs.Failures.{Says}
@@ -66,6 +66,11 @@ pub record Answers (status : ℕ) (words : List (List ℕ)) (old new : Seen) : T
       → FilesMake old.shelf.files ask.names (Ok program) → NoneRose old new
       → (status ≡ 0) ⊎ (status ≡ lies_status) ⊎ (status ≡ script_status)
       ⊎ (status ≡ memory_status)
+  -- Likewise over the gateway, where a body that is no request is reported too.
+  pub complete_dap : (ask : Invocation) (program : Bundle) → IsDap words ask
+      → FilesMake old.shelf.files ask.names (Ok program) → NoneRose old new
+      → (status ≤ exit_limit) ⊎ (status ≡ packet_status) ⊎ (status ≡ killed_status)
+      ⊎ (status ≡ unfinished_status) ⊎ (status ≡ memory_status)
   -- Likewise over a link that was dialled.
   pub complete_engine : (address : Address) (key : List ℕ) (ask : Invocation) (program : Bundle)
       → IsEngine words address key ask

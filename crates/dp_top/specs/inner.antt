@@ -2,6 +2,7 @@
 pub mod BadLines
 pub mod Dialled
 pub mod Gated
+pub mod Gateways
 pub mod Carried
 pub mod Completeness
 pub mod Kept

@@ -6,11 +6,12 @@ ghost use Rattle.dp_words.specs.Words.{Invocation, Task, IsInvocation, invocatio
 ghost use Rattle.dp_words.specs.Commands.{task_of};
 ghost use Rattle.dp_top.specs.inner.Carried.{IsCarriedOut};
 ghost use Rattle.dp_top.specs.inner.Completeness.{AreComplete, AreCompleteWith};
-ghost use Rattle.dp_top.specs.inner.Kept.{GoesOn};
+ghost use Rattle.dp_top.specs.inner.Kept.{LentContinues};
 ghost use Rattle.dp_top.specs.Seen.{seen};
 ghost use Rattle.dp_top.specs.Tasks.{failure_of, Does, Caused, IsFetchedFor, ShowCaused};
 ghost use Rattle.dp_top.specs.Statuses.{exit_limit};
 
+use crate::dap::dap;
 use crate::engine::engine;
 use crate::failures::{Failure, Refused};
 use crate::ide::ide;
@@ -97,13 +98,14 @@ pub(crate) fn carry_out<
         → objects.new.seen.spawner ≡ objects.old.seen.spawner }
     ensures fetched { IsFetchedFor (task_of command.entry) objects.old.seen.shelf.fetched
         objects.new.seen.shelf.fetched }
-    ensures goes_on { GoesOn objects.old objects.new }
+    ensures goes_on { LentContinues objects.old objects.new }
 {
     match command {
         Command::Run(program) => run(alloc, program, objects.shelf, objects.out),
         Command::Talk(request) => talk(alloc, request, objects),
         Command::Tape(request) => tape(alloc, request, objects),
         Command::Audit(request) => audit(alloc, request, objects),
+        Command::Dap(program) => dap(alloc, program, objects),
         Command::Engine(request) => engine(alloc, request, objects),
         Command::Ide(request) => ide(rt, alloc, request, objects),
         Command::Replay(request) => replay(alloc, request, objects.shelf, objects.out),

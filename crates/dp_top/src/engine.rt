@@ -9,7 +9,7 @@ ghost use Rattle.dp_top.specs.Runs.{IsFetched};
 ghost use Rattle.dp_top.specs.Seen.{net_seen};
 ghost use Rattle.dp_top.specs.inner.Dialled.{EngagedSo, UnengagedSo};
 ghost use Rattle.dp_top.specs.inner.Completeness.{AreComplete, IsComplete};
-ghost use Rattle.dp_top.specs.inner.Kept.{GoesOn};
+ghost use Rattle.dp_top.specs.inner.Kept.{LentContinues};
 ghost use Rattle.dp_top.specs.Statuses.{exit_limit};
 
 use crate::failures::{Failure, Refused};
@@ -125,7 +125,7 @@ pub(crate) fn engine<'a, H: Shelf, S: Source, K: Sink, E: Sink, N: Net, P: Spawn
     ensures fetched { IsFetched (Some (invocation_seen request.entry.talk.program)) objects.old.seen.shelf.fetched
         objects.new.seen.shelf.fetched }
     ensures unspawned { objects.new.seen.spawner ≡ objects.old.seen.spawner }
-    ensures goes_on { GoesOn objects.old objects.new }
+    ensures goes_on { LentContinues objects.old objects.new }
 {
     match fetch_program(alloc, request.talk.program.files, objects.shelf) {
         Ok(bundle) => serve_over(alloc, request, &bundle, objects.net, objects.out),

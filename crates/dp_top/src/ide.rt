@@ -7,7 +7,7 @@ ghost use Rattle.dp_top.specs.Ide.{IdeFails, IsScriptFile, Plays, failure_of};
 ghost use Rattle.dp_top.specs.Seen.{net_seen};
 ghost use Rattle.dp_top.specs.inner.BadLines.{AreNone, UnreadSo};
 ghost use Rattle.dp_top.specs.inner.Gated.{GatedSo, IsReportedBy, IsWholeScript, MetSo};
-ghost use Rattle.dp_top.specs.inner.Kept.{GoesOn};
+ghost use Rattle.dp_top.specs.inner.Kept.{LentContinues};
 ghost use Rattle.dp_top.specs.Statuses.{exit_limit};
 
 use crate::failures::{Failure, Refused};
@@ -162,7 +162,7 @@ pub(crate) fn ide<'a, R: Wait + Sync, H: Shelf, S: Source, K: Sink, E: Sink, N: 
     ensures fetched { objects.new.seen.shelf.fetched ≡ grown objects.old.seen.shelf.fetched
         (request.entry.script.now ∷ []) }
     ensures unspawned { objects.new.seen.spawner ≡ objects.old.seen.spawner }
-    ensures goes_on { GoesOn objects.old objects.new }
+    ensures goes_on { LentContinues objects.old objects.new }
 {
     match fetch_script(alloc, request.script, objects.shelf) {
         Ok(script) => {

@@ -2,6 +2,7 @@
 #![tactic(auto)]
 
 mod commands;
+mod dap;
 mod engine;
 mod engines;
 mod failures;

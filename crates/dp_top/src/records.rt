@@ -10,7 +10,7 @@ ghost use Rattle.dp_top.specs.Records.{Audits, AuditFails, Tapes, TapeFails, fai
 ghost use Rattle.dp_top.specs.Runs.{IsFetched};
 ghost use Rattle.dp_top.specs.Statuses.{exit_limit};
 ghost use Rattle.dp_top.specs.inner.Completeness.{AreComplete, IsComplete, IsGood};
-ghost use Rattle.dp_top.specs.inner.Kept.{GoesOn};
+ghost use Rattle.dp_top.specs.inner.Kept.{LentContinues};
 ghost use Rattle.dp_top.specs.inner.Recorded.{AuditedSo, TapedSo, PrintedSo, UnauditedSo, UntapedSo};
 ghost use Rattle.dp_top.specs.inner.Sessions.{reported_in};
 
@@ -98,7 +98,7 @@ pub(crate) fn tape<'a, H: Shelf, S: Source, K: Sink, E: Sink, N: Net, P: Spawner
         objects.new.seen.shelf.fetched }
     ensures offline { objects.new.seen.net ≡ objects.old.seen.net }
     ensures unspawned { objects.new.seen.spawner ≡ objects.old.seen.spawner }
-    ensures goes_on { GoesOn objects.old objects.new }
+    ensures goes_on { LentContinues objects.old objects.new }
 {
     match fetch_program(alloc, request.program.files, objects.shelf) {
         Ok(bundle) => tape_program(alloc, request, &bundle, objects.input, objects.out),
@@ -203,7 +203,7 @@ pub(crate) fn audit<'a, H: Shelf, S: Source, K: Sink, E: Sink, N: Net, P: Spawne
         objects.new.seen.shelf.fetched }
     ensures offline { objects.new.seen.net ≡ objects.old.seen.net }
     ensures unspawned { objects.new.seen.spawner ≡ objects.old.seen.spawner }
-    ensures goes_on { GoesOn objects.old objects.new }
+    ensures goes_on { LentContinues objects.old objects.new }
 {
     match fetch_program(alloc, request.program.files, objects.shelf) {
         Ok(bundle) => audit_program(alloc, request, &bundle, objects.input, objects.out),

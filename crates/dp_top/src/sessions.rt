@@ -37,7 +37,11 @@ pub(crate) fn judge_end<'a>(
 }
 
 /// What the end of a session says of the command; a fault of the link's sink is this failure.
-fn judge<'a>(program: Program<'a>, unsent: Failure, served: Served) -> Result<u8, Refused<'a>>
+pub(crate) fn judge<'a>(
+    program: Program<'a>,
+    unsent: Failure,
+    served: Served,
+) -> Result<u8, Refused<'a>>
     ensures { reported_in result ≡ judged_by unsent (invocation_seen program.entry) served.outcome served.end }
 {
     if let ServeEnd::WriteFault = served.end {

@@ -4,7 +4,7 @@ ghost use Rattle.dp_words.specs.Words.{IsSession};
 ghost use Rattle.dp_words.specs.Commands.{invocation_seen};
 ghost use Rattle.dp_top.specs.Runs.{IsFetched};
 ghost use Rattle.dp_top.specs.inner.Completeness.{AreComplete};
-ghost use Rattle.dp_top.specs.inner.Kept.{GoesOn};
+ghost use Rattle.dp_top.specs.inner.Kept.{LentContinues};
 ghost use Rattle.dp_top.specs.Talk.{Talks, TalkFails};
 ghost use Rattle.dp_top.specs.Statuses.{exit_limit};
 
@@ -38,7 +38,7 @@ pub(crate) fn talk<'a, H: Shelf, S: Source, K: Sink, E: Sink, N: Net, P: Spawner
         objects.new.seen.shelf.fetched }
     ensures offline { objects.new.seen.net ≡ objects.old.seen.net }
     ensures unspawned { objects.new.seen.spawner ≡ objects.old.seen.spawner }
-    ensures goes_on { GoesOn objects.old objects.new }
+    ensures goes_on { LentContinues objects.old objects.new }
 {
     match fetch_program(alloc, request.program.files, objects.shelf) {
         Ok(bundle) => {

@@ -18,8 +18,9 @@ use std::thread::Threads;
 /// which the first is the main one, and puts its output on `out`; `talk [--bound N] KEY FILE..` serves a session of KEY
 /// over the program, with `input` and `out` as the link, and the program's own output on `err`; `tape [--bound N] KEY
 /// FILE..` serves it the same commands and writes the record of it on `out`; `audit [--bound N] KEY FILE..` reads a
-/// record from `input` and prints on `out` whether it is honest, or the first line that differs; `engine [--bound N]
-/// HOST PORT KEY FILE..` serves one over a link that `net` dials, with the program's own output on `out`; `ide PORT
+/// record from `input` and prints on `out` whether it is honest, or the first line that differs; `dap [--bound N]
+/// FILE..` serves one in the Debug Adapter Protocol, with what the program writes behind it on `err`; `engine [--bound
+/// N] HOST PORT KEY FILE..` serves one over a link that `net` dials, with the program's own output on `out`; `ide PORT
 /// SCRIPT` plays the script over the link that an engine makes to the port, and what it prints goes to `out`; `replay
 /// [--bound N] EVENTS FILE..` writes the transcript of the list of events on `out`, with engines in memory that run the
 /// program; `soak N SEED` replays a list of N sessions that is drawn from SEED over one program, and prints its numbers
@@ -38,10 +39,10 @@ use std::thread::Threads;
 /// | 204 | a line is not in the grammar of scripts, of lists of events, or of records; N is the first, or 0 where the file is too long | `bad script line N` |
 /// | 205 | line N of the script wants W, and F is found, or nothing | `differs line N wanted W found F` |
 /// | 206 | the input of `show` ended inside a frame, or the link of `ide` before a packet that was awaited | `peer ended` |
-/// | 207 | bytes stand in no command's or packet's place, a text is no packet, or too many came | `bad packet offset N` |
+/// | 207 | bytes stand in no command's or packet's place, a text is no packet, a body of `dap` is no request, or too many came | `bad packet offset N` |
 /// | 208 | the input or a dial failed, no link came, or it failed; of `proxy` a gate or no thread was had | `network failed` |
 /// | 209 | out of memory | `out of memory` |
-/// | 210 | a command stopped the program before its end | `stopped by the IDE` |
+/// | 210 | a command or a request stopped the program before its end | `stopped by the IDE` |
 /// | 211 | a record tells something else than its session does, on the line that is printed | none |
 /// | 255 | the program could not go on, or would have had more moments than N | `fatal KIND in NAME on line N`, `bound reached after N steps` |
 ///

@@ -9,12 +9,12 @@ use Rattle.clap.specs.Kinds.{Kinds, or_else}
 use Rattle.clap.specs.Faults.{fault_of}
 use Rattle.clap.specs.Simple.{Shape, subcommand_of}
 use Rattle.clap.specs.Walk.{Row, Text}
-use Rattle.dp_words.specs.Words.{Invocation, IsInvocation, Task, run, talk, tape, audit, engine, ide, replay, soak, proxy, show, invocation_of, default_bound, with_bound}
+use Rattle.dp_words.specs.Words.{Invocation, IsInvocation, Task, run, talk, tape, audit, dap, engine, ide, replay, soak, proxy, show, invocation_of, default_bound, with_bound}
 use Rattle.dp_words.specs.Plain.{has_bound, is_plain}
-use Rattle.dp_words.specs.inner.Given.{Given, engine_given, ide_given, proxy_given, replay_given, run_given, show_given, soak_given, talk_given, tape_given, audit_given, are_plain_in, requested, bound_given, bounded, name_in, row, rows_in, words_in}
+use Rattle.dp_words.specs.inner.Given.{Given, engine_given, ide_given, proxy_given, replay_given, run_given, show_given, soak_given, talk_given, tape_given, audit_given, dap_given, are_plain_in, requested, bound_given, bounded, name_in, row, rows_in, words_in}
 use Rattle.dp_words.specs.inner.Shapes.{engine_words, program, replay_words, talk_words}
 use Rattle.dp_words.proofs.Leaves.{HasFault, I, P, S, TakesFiles, alone, begun, both, engine_lacks_1, engine_lacks_2, engine_lacks_3, engine_lacks_4, engine_read, engine_rows, engine_takes, fault, few, files, ide_fine, ide_found, ide_lacks_1, ide_lacks_2, ide_over, is_plain_bound, level, many, pass_bound, Passes, proxy_fine, proxy_found, proxy_lacks_1, proxy_lacks_2, proxy_lacks_3, proxy_lacks_4, proxy_over, relay, replay_lacks_1, replay_lacks_2, replay_read, replay_rows, replay_takes, rows_at_end, run_lacks_1, run_read, run_rows, run_takes, show_fine, show_over, soak_fine, soak_found, soak_lacks_1, soak_lacks_2, soak_over, talk_lacks_1, talk_lacks_2, talk_read, talk_rows, talk_takes, too_many, wanting}
-use Rattle.dp_words.proofs.Programs.{Known, fault_known, rows_known, run_known, talk_known, tape_known, audit_known, engine_known, ide_known, replay_known, soak_known, proxy_known, show_known, names}
+use Rattle.dp_words.proofs.Programs.{Known, fault_known, rows_known, run_known, talk_known, tape_known, audit_known, dap_known, engine_known, ide_known, replay_known, soak_known, proxy_known, show_known, names}
 
 -- ---- what tasks want
 
@@ -23,6 +23,7 @@ name_of (run ask) = codes "run"
 name_of (talk key ask) = codes "talk"
 name_of (tape key ask) = codes "tape"
 name_of (audit key ask) = codes "audit"
+name_of (dap ask) = codes "dap"
 name_of (engine address key ask) = codes "engine"
 name_of (ide port script) = codes "ide"
 name_of (replay events ask) = codes "replay"
@@ -37,6 +38,7 @@ named words (run ask) h = (h.behind, h.words_are)
 named words (talk key ask) h = (h.behind, h.words_are)
 named words (tape key ask) h = (h.behind, h.words_are)
 named words (audit key ask) h = (h.behind, h.words_are)
+named words (dap ask) h = (h.behind, h.words_are)
 named words (engine address key ask) h = (h.behind, h.words_are)
 named words (ide port script) h = (h.number ∷ script ∷ [], h.words_are)
 named words (replay events ask) h = (h.behind, h.words_are)
@@ -96,6 +98,8 @@ counted_for (audit key ask) words h b =
       enough = omega (arith, f.some);
       few = omega (arith, f.few);
     }
+counted_for (dap ask) words h b =
+    record { ask = ask; asks = h.follows.invocation; enough = h.follows.files.some; few = h.follows.files.few }
 counted_for (engine address key ask) words h b =
     let f = h.dials.session.files in
     record {
@@ -339,6 +343,24 @@ audit_reads bound (k ∷ f ∷ fs) hb hs =
     (audit_given bound k (f ∷ fs)) refl hs refl refl
     (λ large. outside (codes "audit") bound (k ∷ f ∷ fs) 2 refl refl hs (inr (omega (arith, large))))
 
+-- ---- `dap`
+
+pub dap_reads : (bound : Option Text) (words : List Text) → is_plain_bound bound ≡ true → list_all is_plain words ≡ true
+    → Reading (codes "dap" ∷ bounded bound words)
+dap_reads bound [] hb hs =
+    inr (
+      faulty (codes "dap") (P (codes "dap") []) dap_known (bounded bound []) wanting tt
+          (run_lacks_1 (codes "dap") bound hb),
+      outside (codes "dap") bound [] 1 refl refl hs (inl (omega arith)),
+    )
+dap_reads bound (f ∷ fs) hb hs =
+    let q0 = both (is_plain f) (list_all is_plain fs) hs in
+    files_reads (codes "dap") [] dap_known bound [] 1 (run_rows bound)
+    (run_takes (codes "dap") bound) f fs hb
+    (run_read (codes "dap") bound f fs q0.0 q0.1)
+    (dap_given bound (f ∷ fs)) refl hs refl refl
+    (λ large. outside (codes "dap") bound (f ∷ fs) 1 refl refl hs (inr (omega (arith, large))))
+
 -- ---- `engine`
 
 pub engine_reads : (bound : Option Text) (words : List Text) → is_plain_bound bound ≡ true
@@ -427,6 +449,7 @@ plain_behind (run ask) words h e = absurd cc
 plain_behind (talk key ask) words h e = absurd cc
 plain_behind (tape key ask) words h e = absurd cc
 plain_behind (audit key ask) words h e = absurd cc
+plain_behind (dap ask) words h e = absurd cc
 plain_behind (engine address key ask) words h e = absurd cc
 plain_behind (ide port script) words h e = refl
 plain_behind (replay events ask) words h e = absurd cc

@@ -1,8 +1,7 @@
 -- What the matches of a command hold says what is asked for.
-use Rattle.std.proofs.Common.{◌≡◌, ℕ, ◌+◌, ◌*◌, ◌≤◌, ◌-◌, List, [], ◌∷◌, ◌++◌, length, map, drop, Option, Some, None, Box, refl, sym, ap, ap₂, ◌∙◌, subst, arith, codes, String, string_bytes, Global}
+use Rattle.std.proofs.Common.{◌≡◌, ℕ, ◌+◌, ◌*◌, ◌-◌, List, [], ◌∷◌, ◌++◌, map, drop, Option, Some, None, Box, refl, sym, ap, ◌∙◌, subst, arith, codes, String, string_bytes, Global}
 use Rattle.std.specs.Prelude.{get_or, option_and_then}
 use Rattle.std.specs.Option.{option_map, option_map_or}
-use Rattle.std.proofs.lemmas.List.{drop-map, length-append, length-map}
 use Rattle.std.specs.Box.{box_value}
 use Rattle.clap.specs.Simple.{subcommand_rows}
 use Rattle.clap.specs.Matches.{subcommand_name_of}
@@ -11,174 +10,11 @@ use Rattle.clap.specs.declared.parser.matches.ArgMatches.TheViews.{out-ArgMatche
 use Rattle.clap.specs.declared.parser.matches.SubCommand.{SubCommand}
 use Rattle.clap.specs.Walk.{Row, Text, first_of}
 use Rattle.dp_value.specs.Decimals.{decimal_in}
-use Rattle.dp_words.specs.Words.{Address, AreFileWords, Invocation, IsFileWord, IsHostWord, IsInvocation, IsSession, Task, run, talk, tape, audit, engine, ide, replay, soak, proxy, show, Service, invocation_of, port_of, seed_limit, served_count_of, session_count_of}
-use Rattle.dp_words.specs.inner.Given.{Given, engine_given, ide_given, proxy_given, replay_given, run_given, show_given, soak_given, talk_given, tape_given, audit_given, requested, bound_given, bound_in, bounded, files_in, first_in, name_in, rows_in, words_in, are_plain_in}
-use Rattle.dp_words.specs.inner.Rows.{AreRows, IsGiven, count_in, program_in}
+use Rattle.dp_words.specs.Words.{Address, AreFileWords, Invocation, IsFileWord, IsHostWord, IsInvocation, IsSession, Task, run, talk, tape, audit, dap, engine, ide, replay, soak, proxy, show, Service, invocation_of, port_of, seed_limit, served_count_of, session_count_of}
+use Rattle.dp_words.specs.inner.Given.{Given, engine_given, ide_given, proxy_given, replay_given, run_given, show_given, soak_given, talk_given, tape_given, audit_given, dap_given, requested, bound_given, bound_in, bounded, files_in, first_in, name_in, rows_in, words_in, are_plain_in}
+use Rattle.dp_words.specs.inner.Rows.{AreRows, IsGiven, program_in}
 use Rattle.dp_words.proofs.CommandReadings.{invoked, named, name_of}
-
--- ---- what the rows hold
-
-count_said : (g : Given) → count_in (rows_in g) ≡ length (files_in g)
-count_said (run_given None []) = refl
-count_said (run_given None (f ∷ fs)) = refl
-count_said (run_given (Some n) []) = refl
-count_said (run_given (Some n) (f ∷ fs)) = refl
-count_said (talk_given None key []) = refl
-count_said (tape_given None key []) = refl
-count_said (audit_given None key []) = refl
-count_said (talk_given None key (f ∷ fs)) = refl
-count_said (tape_given None key (f ∷ fs)) = refl
-count_said (audit_given None key (f ∷ fs)) = refl
-count_said (talk_given (Some n) key []) = refl
-count_said (tape_given (Some n) key []) = refl
-count_said (audit_given (Some n) key []) = refl
-count_said (talk_given (Some n) key (f ∷ fs)) = refl
-count_said (tape_given (Some n) key (f ∷ fs)) = refl
-count_said (audit_given (Some n) key (f ∷ fs)) = refl
-count_said (engine_given None host port key []) = refl
-count_said (engine_given None host port key (f ∷ fs)) = refl
-count_said (engine_given (Some n) host port key []) = refl
-count_said (engine_given (Some n) host port key (f ∷ fs)) = refl
-count_said (replay_given None events []) = refl
-count_said (replay_given None events (f ∷ fs)) = refl
-count_said (replay_given (Some n) events []) = refl
-count_said (replay_given (Some n) events (f ∷ fs)) = refl
-count_said (ide_given port script) = refl
-count_said (soak_given count seed) = refl
-count_said (proxy_given ides engines registrations sessions) = refl
-count_said show_given = refl
-
-bound_said : (g : Given) → first_of (codes "bound") (rows_in g) ≡ bound_in g
-bound_said (run_given None []) = refl
-bound_said (run_given None (f ∷ fs)) = refl
-bound_said (run_given (Some n) []) = refl
-bound_said (run_given (Some n) (f ∷ fs)) = refl
-bound_said (talk_given None key []) = refl
-bound_said (tape_given None key []) = refl
-bound_said (audit_given None key []) = refl
-bound_said (talk_given None key (f ∷ fs)) = refl
-bound_said (tape_given None key (f ∷ fs)) = refl
-bound_said (audit_given None key (f ∷ fs)) = refl
-bound_said (talk_given (Some n) key []) = refl
-bound_said (tape_given (Some n) key []) = refl
-bound_said (audit_given (Some n) key []) = refl
-bound_said (talk_given (Some n) key (f ∷ fs)) = refl
-bound_said (tape_given (Some n) key (f ∷ fs)) = refl
-bound_said (audit_given (Some n) key (f ∷ fs)) = refl
-bound_said (engine_given None host port key []) = refl
-bound_said (engine_given None host port key (f ∷ fs)) = refl
-bound_said (engine_given (Some n) host port key []) = refl
-bound_said (engine_given (Some n) host port key (f ∷ fs)) = refl
-bound_said (replay_given None events []) = refl
-bound_said (replay_given None events (f ∷ fs)) = refl
-bound_said (replay_given (Some n) events []) = refl
-bound_said (replay_given (Some n) events (f ∷ fs)) = refl
-bound_said (ide_given port script) = refl
-bound_said (soak_given count seed) = refl
-bound_said (proxy_given ides engines registrations sessions) = refl
-bound_said show_given = refl
-
-pub key_of_talk : (bound : Option Text) (key : Text) (files : List Text)
-    → first_of (codes "KEY") (rows_in (talk_given bound key files)) ≡ Some key
-key_of_talk None key files = refl
-key_of_talk (Some n) key files = refl
-
-pub key_of_tape : (bound : Option Text) (key : Text) (files : List Text)
-    → first_of (codes "KEY") (rows_in (tape_given bound key files)) ≡ Some key
-key_of_tape None key files = refl
-key_of_tape (Some n) key files = refl
-
-pub key_of_audit : (bound : Option Text) (key : Text) (files : List Text)
-    → first_of (codes "KEY") (rows_in (audit_given bound key files)) ≡ Some key
-key_of_audit None key files = refl
-key_of_audit (Some n) key files = refl
-
-events_of_replay : (bound : Option Text) (events : Text) (files : List Text)
-    → first_of (codes "EVENTS") (rows_in (replay_given bound events files)) ≡ Some events
-events_of_replay None events files = refl
-events_of_replay (Some n) events files = refl
-
-module _ (host port key : Text) (files : List Text) where
-  host_of_engine : (bound : Option Text) → first_of (codes "HOST") (rows_in (engine_given bound host port key files))
-      ≡ Some host
-  host_of_engine None = refl
-  host_of_engine (Some n) = refl
-
-  port_of_engine : (bound : Option Text) → first_of (codes "PORT") (rows_in (engine_given bound host port key files))
-      ≡ Some port
-  port_of_engine None = refl
-  port_of_engine (Some n) = refl
-
-  key_of_engine : (bound : Option Text) → first_of (codes "KEY") (rows_in (engine_given bound host port key files))
-      ≡ Some key
-  key_of_engine None = refl
-  key_of_engine (Some n) = refl
-
--- ---- the files are the last of the words
-
-drop_front : (front words : List Text) → drop (length front) (front ++ words) ≡ words
-drop_front [] words = refl
-drop_front (w ∷ front) words = drop_front front words
-
-last_of : (all front words : List Text) (count : ℕ) → all ≡ front ++ words → count ≡ length words
-    → drop (length all - count) all ≡ words
-last_of all front words count is few =
-    let whole : length all - count ≡ length front = omega (
-      arith,
-      ap (λ (l : List Text). length l) is,
-      few,
-      length-append front words,
-    ) in
-    ap₂ drop whole is ∙ drop_front front words
-
--- the words before the files
-abbrev front_of : Given → List Text
-front_of g = name_in g ∷ bounded (bound_in g) (first_in g)
-
-front_is : (g : Given) → words_in g ≡ front_of g ++ files_in g
-front_is (run_given None files) = refl
-front_is (run_given (Some n) files) = refl
-front_is (talk_given None key files) = refl
-front_is (tape_given None key files) = refl
-front_is (audit_given None key files) = refl
-front_is (talk_given (Some n) key files) = refl
-front_is (tape_given (Some n) key files) = refl
-front_is (audit_given (Some n) key files) = refl
-front_is (engine_given None host port key files) = refl
-front_is (engine_given (Some n) host port key files) = refl
-front_is (replay_given None events files) = refl
-front_is (replay_given (Some n) events files) = refl
-front_is (ide_given port script) = refl
-front_is (soak_given count seed) = refl
-front_is (proxy_given ides engines registrations sessions) = refl
-front_is show_given = refl
-
-module _ (words : List (String Global)) (name : Text) (rows : List Row) (i : IsGiven (map string_bytes words) name
-    rows)
-  where
-    count_is : count_in rows ≡ length (files_in i.given)
-    count_is = ap count_in i.rows_are ∙ count_said i.given
-
-    pub few_files : count_in rows ≤ length words
-    few_files = omega (
-      arith,
-      count_is,
-      length-map words string_bytes,
-      ap (λ (l : List Text). length l) (i.words_are ∙ front_is i.given),
-      length-append (front_of i.given) (files_in i.given),
-    )
-
-    files_are : map string_bytes (drop (length words - count_in rows) words) ≡ files_in i.given
-    files_are =
-        sym (drop-map string_bytes (length words - count_in rows) words)
-        ∙ ap (λ (n : ℕ). drop (n - count_in rows) (map string_bytes words)) (sym (length-map words string_bytes))
-        ∙ last_of (map string_bytes words) (front_of i.given) (files_in i.given) (count_in rows)
-        (i.words_are ∙ front_is i.given) count_is
-
-    program_is : program_in rows words ≡ requested (bound_in i.given) (files_in i.given)
-    program_is =
-        ap₂ (λ (o : Option Text) (l : List Text). requested o l)
-        (ap (first_of (codes "bound")) i.rows_are ∙ bound_said i.given) files_are
+use Rattle.dp_words.proofs.RowLaws.{count_is, events_of_replay, host_of_engine, key_of_engine, port_of_engine, program_is}
 
 -- ---- the bound and the names
 
@@ -207,12 +43,12 @@ shorter bound name other names ask e = by (bound_given bound) e where
     ap (option_map {U = Invocation} (λ (a : Invocation). record { bound = a.bound; names = drop 1 a.names })) some,
   )
 
--- no two names have the same second and third letter
+-- no two names have the same first three letters
 abbrev pub letters : Text → ℕ
 letters [] = 0
 letters (a ∷ []) = 0
 letters (a ∷ b ∷ []) = 0
-letters (a ∷ b ∷ c ∷ more) = 256 * b + c
+letters (a ∷ b ∷ c ∷ more) = 256 * (256 * a + b) + c
 
 pub the_same : {A : Type 0} (x y : A) → Some x ≡ Some y → x ≡ y
 the_same x y e = ap (λ o. option_map_or (λ a. a) o x) e
@@ -281,6 +117,7 @@ module _ (words : List (String Global)) (name : Text) (rows : List Row) (i : IsG
       by (talk_given x0 x1 x2) at = absurd (omega (arith, differs (codes "run") (talk_given x0 x1 x2) at is))
       by (tape_given x0 x1 x2) at = absurd (omega (arith, differs (codes "run") (tape_given x0 x1 x2) at is))
       by (audit_given x0 x1 x2) at = absurd (omega (arith, differs (codes "run") (audit_given x0 x1 x2) at is))
+      by (dap_given x0 x1) at = absurd (omega (arith, differs (codes "run") (dap_given x0 x1) at is))
       by (engine_given x0 x1 x2 x3 x4) at =
           absurd (omega (arith, differs (codes "run") (engine_given x0 x1 x2 x3 x4) at is))
       by (ide_given x0 x1) at = absurd (omega (arith, differs (codes "run") (ide_given x0 x1) at is))
@@ -306,6 +143,7 @@ module _ (words : List (String Global)) (name : Text) (rows : List Row) (i : IsG
         by_task (talk k asking) asks = omega (arith, clashes (codes "run") (talk k asking) is asks)
         by_task (tape k asking) asks = omega (arith, clashes (codes "run") (tape k asking) is asks)
         by_task (audit k asking) asks = omega (arith, clashes (codes "run") (audit k asking) is asks)
+        by_task (dap asking) asks = omega (arith, clashes (codes "run") (dap asking) is asks)
         by_task (engine a k asking) asks = omega (arith, clashes (codes "run") (engine a k asking) is asks)
         by_task (ide n s) asks = omega (arith, clashes (codes "run") (ide n s) is asks)
         by_task (replay e asking) asks = omega (arith, clashes (codes "run") (replay e asking) is asks)
@@ -315,6 +153,7 @@ module _ (words : List (String Global)) (name : Text) (rows : List Row) (i : IsG
       by (talk_given x0 x1 x2) at = absurd (omega (arith, differs (codes "run") (talk_given x0 x1 x2) at is))
       by (tape_given x0 x1 x2) at = absurd (omega (arith, differs (codes "run") (tape_given x0 x1 x2) at is))
       by (audit_given x0 x1 x2) at = absurd (omega (arith, differs (codes "run") (audit_given x0 x1 x2) at is))
+      by (dap_given x0 x1) at = absurd (omega (arith, differs (codes "run") (dap_given x0 x1) at is))
       by (engine_given x0 x1 x2 x3 x4) at =
           absurd (omega (arith, differs (codes "run") (engine_given x0 x1 x2 x3 x4) at is))
       by (ide_given x0 x1) at = absurd (omega (arith, differs (codes "run") (ide_given x0 x1) at is))
@@ -323,6 +162,69 @@ module _ (words : List (String Global)) (name : Text) (rows : List Row) (i : IsG
       by (proxy_given x0 x1 x2 x3) at =
           absurd (omega (arith, differs (codes "run") (proxy_given x0 x1 x2 x3) at is))
       by show_given at = absurd (omega (arith, differs (codes "run") show_given at is))
+
+    -- ---- `dap`
+
+    pub dap_found : name ≡ codes "dap" → (ask : Invocation) → program_in rows words ≡ Some ask → AreFileWords
+        ask.names
+        → IsInvocation all (dap ask)
+    dap_found is ask program files_named = by i.given refl where
+      by : (g : Given) → i.given ≡ g → IsInvocation all (dap ask)
+      by (dap_given bound files) at =
+          let g = dap_given bound files in
+          record {
+            behind = bounded bound files;
+            words_are = words_at g at;
+            follows = record { invocation = invoked_at g at ∙ sym (program_at g at) ∙ program; files = files_named };
+          }
+      by (talk_given x0 x1 x2) at = absurd (omega (arith, differs (codes "dap") (talk_given x0 x1 x2) at is))
+      by (tape_given x0 x1 x2) at = absurd (omega (arith, differs (codes "dap") (tape_given x0 x1 x2) at is))
+      by (audit_given x0 x1 x2) at = absurd (omega (arith, differs (codes "dap") (audit_given x0 x1 x2) at is))
+      by (run_given x0 x1) at = absurd (omega (arith, differs (codes "dap") (run_given x0 x1) at is))
+      by (engine_given x0 x1 x2 x3 x4) at =
+          absurd (omega (arith, differs (codes "dap") (engine_given x0 x1 x2 x3 x4) at is))
+      by (ide_given x0 x1) at = absurd (omega (arith, differs (codes "dap") (ide_given x0 x1) at is))
+      by (replay_given x0 x1 x2) at = absurd (omega (arith, differs (codes "dap") (replay_given x0 x1 x2) at is))
+      by (soak_given x0 x1) at = absurd (omega (arith, differs (codes "dap") (soak_given x0 x1) at is))
+      by (proxy_given x0 x1 x2 x3) at =
+          absurd (omega (arith, differs (codes "dap") (proxy_given x0 x1 x2 x3) at is))
+      by show_given at = absurd (omega (arith, differs (codes "dap") show_given at is))
+
+    pub dap_none : name ≡ codes "dap"
+        → ((ask : Invocation) → program_in rows words ≡ Some ask → AreFileWords ask.names → ⊥)
+        → (task : Task) → IsInvocation all task → ⊥
+    dap_none is none = by i.given refl where
+      by : (g : Given) → i.given ≡ g → (task : Task) → IsInvocation all task → ⊥
+      by (dap_given bound files) at = by_task where
+        g : Given
+        g = dap_given bound files
+
+        by_task : (task : Task) → IsInvocation all task → ⊥
+        by_task (dap ask) asks =
+            none ask (program_at g at ∙ sym (asked_by g at asks.behind asks.words_are) ∙ asks.follows.invocation)
+            asks.follows.files
+        by_task (talk k asking) asks = omega (arith, clashes (codes "dap") (talk k asking) is asks)
+        by_task (tape k asking) asks = omega (arith, clashes (codes "dap") (tape k asking) is asks)
+        by_task (audit k asking) asks = omega (arith, clashes (codes "dap") (audit k asking) is asks)
+        by_task (run asking) asks = omega (arith, clashes (codes "dap") (run asking) is asks)
+        by_task (engine a k asking) asks = omega (arith, clashes (codes "dap") (engine a k asking) is asks)
+        by_task (ide n s) asks = omega (arith, clashes (codes "dap") (ide n s) is asks)
+        by_task (replay e asking) asks = omega (arith, clashes (codes "dap") (replay e asking) is asks)
+        by_task (soak n d) asks = omega (arith, clashes (codes "dap") (soak n d) is asks)
+        by_task (proxy service) asks = omega (arith, clashes (codes "dap") (proxy service) is asks)
+        by_task show asks = omega (arith, clashes (codes "dap") show is asks)
+      by (talk_given x0 x1 x2) at = absurd (omega (arith, differs (codes "dap") (talk_given x0 x1 x2) at is))
+      by (tape_given x0 x1 x2) at = absurd (omega (arith, differs (codes "dap") (tape_given x0 x1 x2) at is))
+      by (audit_given x0 x1 x2) at = absurd (omega (arith, differs (codes "dap") (audit_given x0 x1 x2) at is))
+      by (run_given x0 x1) at = absurd (omega (arith, differs (codes "dap") (run_given x0 x1) at is))
+      by (engine_given x0 x1 x2 x3 x4) at =
+          absurd (omega (arith, differs (codes "dap") (engine_given x0 x1 x2 x3 x4) at is))
+      by (ide_given x0 x1) at = absurd (omega (arith, differs (codes "dap") (ide_given x0 x1) at is))
+      by (replay_given x0 x1 x2) at = absurd (omega (arith, differs (codes "dap") (replay_given x0 x1 x2) at is))
+      by (soak_given x0 x1) at = absurd (omega (arith, differs (codes "dap") (soak_given x0 x1) at is))
+      by (proxy_given x0 x1 x2 x3) at =
+          absurd (omega (arith, differs (codes "dap") (proxy_given x0 x1 x2 x3) at is))
+      by show_given at = absurd (omega (arith, differs (codes "dap") show_given at is))
 
     -- ---- `engine`
 
@@ -360,6 +262,7 @@ module _ (words : List (String Global)) (name : Text) (rows : List Row) (i : IsG
       by (talk_given x0 x1 x2) at = absurd (omega (arith, differs (codes "engine") (talk_given x0 x1 x2) at is))
       by (tape_given x0 x1 x2) at = absurd (omega (arith, differs (codes "engine") (tape_given x0 x1 x2) at is))
       by (audit_given x0 x1 x2) at = absurd (omega (arith, differs (codes "engine") (audit_given x0 x1 x2) at is))
+      by (dap_given x0 x1) at = absurd (omega (arith, differs (codes "engine") (dap_given x0 x1) at is))
       by (ide_given x0 x1) at = absurd (omega (arith, differs (codes "engine") (ide_given x0 x1) at is))
       by (replay_given x0 x1 x2) at = absurd (omega (arith, differs (codes "engine") (replay_given x0 x1 x2) at is))
       by (soak_given x0 x1) at = absurd (omega (arith, differs (codes "engine") (soak_given x0 x1) at is))
@@ -397,6 +300,7 @@ module _ (words : List (String Global)) (name : Text) (rows : List Row) (i : IsG
         by_task (talk k asking) asks = omega (arith, clashes (codes "engine") (talk k asking) is asks)
         by_task (tape k asking) asks = omega (arith, clashes (codes "engine") (tape k asking) is asks)
         by_task (audit k asking) asks = omega (arith, clashes (codes "engine") (audit k asking) is asks)
+        by_task (dap asking) asks = omega (arith, clashes (codes "engine") (dap asking) is asks)
         by_task (ide n s) asks = omega (arith, clashes (codes "engine") (ide n s) is asks)
         by_task (replay e asking) asks = omega (arith, clashes (codes "engine") (replay e asking) is asks)
         by_task (soak n d) asks = omega (arith, clashes (codes "engine") (soak n d) is asks)
@@ -406,6 +310,7 @@ module _ (words : List (String Global)) (name : Text) (rows : List Row) (i : IsG
       by (talk_given x0 x1 x2) at = absurd (omega (arith, differs (codes "engine") (talk_given x0 x1 x2) at is))
       by (tape_given x0 x1 x2) at = absurd (omega (arith, differs (codes "engine") (tape_given x0 x1 x2) at is))
       by (audit_given x0 x1 x2) at = absurd (omega (arith, differs (codes "engine") (audit_given x0 x1 x2) at is))
+      by (dap_given x0 x1) at = absurd (omega (arith, differs (codes "engine") (dap_given x0 x1) at is))
       by (ide_given x0 x1) at = absurd (omega (arith, differs (codes "engine") (ide_given x0 x1) at is))
       by (replay_given x0 x1 x2) at = absurd (omega (arith, differs (codes "engine") (replay_given x0 x1 x2) at is))
       by (soak_given x0 x1) at = absurd (omega (arith, differs (codes "engine") (soak_given x0 x1) at is))
@@ -438,6 +343,7 @@ module _ (words : List (String Global)) (name : Text) (rows : List Row) (i : IsG
       by (talk_given x0 x1 x2) at = absurd (omega (arith, differs (codes "ide") (talk_given x0 x1 x2) at is))
       by (tape_given x0 x1 x2) at = absurd (omega (arith, differs (codes "ide") (tape_given x0 x1 x2) at is))
       by (audit_given x0 x1 x2) at = absurd (omega (arith, differs (codes "ide") (audit_given x0 x1 x2) at is))
+      by (dap_given x0 x1) at = absurd (omega (arith, differs (codes "ide") (dap_given x0 x1) at is))
       by (engine_given x0 x1 x2 x3 x4) at =
           absurd (omega (arith, differs (codes "ide") (engine_given x0 x1 x2 x3 x4) at is))
       by (replay_given x0 x1 x2) at = absurd (omega (arith, differs (codes "ide") (replay_given x0 x1 x2) at is))
@@ -470,6 +376,7 @@ module _ (words : List (String Global)) (name : Text) (rows : List Row) (i : IsG
         by_task (talk k asking) asks = omega (arith, clashes (codes "ide") (talk k asking) is asks)
         by_task (tape k asking) asks = omega (arith, clashes (codes "ide") (tape k asking) is asks)
         by_task (audit k asking) asks = omega (arith, clashes (codes "ide") (audit k asking) is asks)
+        by_task (dap asking) asks = omega (arith, clashes (codes "ide") (dap asking) is asks)
         by_task (engine a k asking) asks = omega (arith, clashes (codes "ide") (engine a k asking) is asks)
         by_task (replay e asking) asks = omega (arith, clashes (codes "ide") (replay e asking) is asks)
         by_task (soak n d) asks = omega (arith, clashes (codes "ide") (soak n d) is asks)
@@ -479,6 +386,7 @@ module _ (words : List (String Global)) (name : Text) (rows : List Row) (i : IsG
       by (talk_given x0 x1 x2) at = absurd (omega (arith, differs (codes "ide") (talk_given x0 x1 x2) at is))
       by (tape_given x0 x1 x2) at = absurd (omega (arith, differs (codes "ide") (tape_given x0 x1 x2) at is))
       by (audit_given x0 x1 x2) at = absurd (omega (arith, differs (codes "ide") (audit_given x0 x1 x2) at is))
+      by (dap_given x0 x1) at = absurd (omega (arith, differs (codes "ide") (dap_given x0 x1) at is))
       by (engine_given x0 x1 x2 x3 x4) at =
           absurd (omega (arith, differs (codes "ide") (engine_given x0 x1 x2 x3 x4) at is))
       by (replay_given x0 x1 x2) at = absurd (omega (arith, differs (codes "ide") (replay_given x0 x1 x2) at is))
@@ -513,6 +421,7 @@ module _ (words : List (String Global)) (name : Text) (rows : List Row) (i : IsG
       by (talk_given x0 x1 x2) at = absurd (omega (arith, differs (codes "replay") (talk_given x0 x1 x2) at is))
       by (tape_given x0 x1 x2) at = absurd (omega (arith, differs (codes "replay") (tape_given x0 x1 x2) at is))
       by (audit_given x0 x1 x2) at = absurd (omega (arith, differs (codes "replay") (audit_given x0 x1 x2) at is))
+      by (dap_given x0 x1) at = absurd (omega (arith, differs (codes "replay") (dap_given x0 x1) at is))
       by (engine_given x0 x1 x2 x3 x4) at =
           absurd (omega (arith, differs (codes "replay") (engine_given x0 x1 x2 x3 x4) at is))
       by (ide_given x0 x1) at = absurd (omega (arith, differs (codes "replay") (ide_given x0 x1) at is))
@@ -542,6 +451,7 @@ module _ (words : List (String Global)) (name : Text) (rows : List Row) (i : IsG
         by_task (talk k asking) asks = omega (arith, clashes (codes "replay") (talk k asking) is asks)
         by_task (tape k asking) asks = omega (arith, clashes (codes "replay") (tape k asking) is asks)
         by_task (audit k asking) asks = omega (arith, clashes (codes "replay") (audit k asking) is asks)
+        by_task (dap asking) asks = omega (arith, clashes (codes "replay") (dap asking) is asks)
         by_task (engine a k asking) asks = omega (arith, clashes (codes "replay") (engine a k asking) is asks)
         by_task (ide n s) asks = omega (arith, clashes (codes "replay") (ide n s) is asks)
         by_task (soak n d) asks = omega (arith, clashes (codes "replay") (soak n d) is asks)
@@ -551,6 +461,7 @@ module _ (words : List (String Global)) (name : Text) (rows : List Row) (i : IsG
       by (talk_given x0 x1 x2) at = absurd (omega (arith, differs (codes "replay") (talk_given x0 x1 x2) at is))
       by (tape_given x0 x1 x2) at = absurd (omega (arith, differs (codes "replay") (tape_given x0 x1 x2) at is))
       by (audit_given x0 x1 x2) at = absurd (omega (arith, differs (codes "replay") (audit_given x0 x1 x2) at is))
+      by (dap_given x0 x1) at = absurd (omega (arith, differs (codes "replay") (dap_given x0 x1) at is))
       by (engine_given x0 x1 x2 x3 x4) at =
           absurd (omega (arith, differs (codes "replay") (engine_given x0 x1 x2 x3 x4) at is))
       by (ide_given x0 x1) at = absurd (omega (arith, differs (codes "replay") (ide_given x0 x1) at is))
@@ -582,6 +493,7 @@ module _ (words : List (String Global)) (name : Text) (rows : List Row) (i : IsG
       by (talk_given x0 x1 x2) at = absurd (omega (arith, differs (codes "soak") (talk_given x0 x1 x2) at is))
       by (tape_given x0 x1 x2) at = absurd (omega (arith, differs (codes "soak") (tape_given x0 x1 x2) at is))
       by (audit_given x0 x1 x2) at = absurd (omega (arith, differs (codes "soak") (audit_given x0 x1 x2) at is))
+      by (dap_given x0 x1) at = absurd (omega (arith, differs (codes "soak") (dap_given x0 x1) at is))
       by (engine_given x0 x1 x2 x3 x4) at =
           absurd (omega (arith, differs (codes "soak") (engine_given x0 x1 x2 x3 x4) at is))
       by (ide_given x0 x1) at = absurd (omega (arith, differs (codes "soak") (ide_given x0 x1) at is))
@@ -614,6 +526,7 @@ module _ (words : List (String Global)) (name : Text) (rows : List Row) (i : IsG
         by_task (talk k asking) asks = omega (arith, clashes (codes "soak") (talk k asking) is asks)
         by_task (tape k asking) asks = omega (arith, clashes (codes "soak") (tape k asking) is asks)
         by_task (audit k asking) asks = omega (arith, clashes (codes "soak") (audit k asking) is asks)
+        by_task (dap asking) asks = omega (arith, clashes (codes "soak") (dap asking) is asks)
         by_task (engine a k asking) asks = omega (arith, clashes (codes "soak") (engine a k asking) is asks)
         by_task (ide n s) asks = omega (arith, clashes (codes "soak") (ide n s) is asks)
         by_task (replay e asking) asks = omega (arith, clashes (codes "soak") (replay e asking) is asks)
@@ -623,6 +536,7 @@ module _ (words : List (String Global)) (name : Text) (rows : List Row) (i : IsG
       by (talk_given x0 x1 x2) at = absurd (omega (arith, differs (codes "soak") (talk_given x0 x1 x2) at is))
       by (tape_given x0 x1 x2) at = absurd (omega (arith, differs (codes "soak") (tape_given x0 x1 x2) at is))
       by (audit_given x0 x1 x2) at = absurd (omega (arith, differs (codes "soak") (audit_given x0 x1 x2) at is))
+      by (dap_given x0 x1) at = absurd (omega (arith, differs (codes "soak") (dap_given x0 x1) at is))
       by (engine_given x0 x1 x2 x3 x4) at =
           absurd (omega (arith, differs (codes "soak") (engine_given x0 x1 x2 x3 x4) at is))
       by (ide_given x0 x1) at = absurd (omega (arith, differs (codes "soak") (ide_given x0 x1) at is))
@@ -662,6 +576,7 @@ module _ (words : List (String Global)) (name : Text) (rows : List Row) (i : IsG
       by (talk_given x0 x1 x2) at = absurd (omega (arith, differs (codes "proxy") (talk_given x0 x1 x2) at is))
       by (tape_given x0 x1 x2) at = absurd (omega (arith, differs (codes "proxy") (tape_given x0 x1 x2) at is))
       by (audit_given x0 x1 x2) at = absurd (omega (arith, differs (codes "proxy") (audit_given x0 x1 x2) at is))
+      by (dap_given x0 x1) at = absurd (omega (arith, differs (codes "proxy") (dap_given x0 x1) at is))
       by (engine_given x0 x1 x2 x3 x4) at =
           absurd (omega (arith, differs (codes "proxy") (engine_given x0 x1 x2 x3 x4) at is))
       by (ide_given x0 x1) at = absurd (omega (arith, differs (codes "proxy") (ide_given x0 x1) at is))
@@ -700,6 +615,7 @@ module _ (words : List (String Global)) (name : Text) (rows : List Row) (i : IsG
         by_task (talk k asking) asks = omega (arith, clashes (codes "proxy") (talk k asking) is asks)
         by_task (tape k asking) asks = omega (arith, clashes (codes "proxy") (tape k asking) is asks)
         by_task (audit k asking) asks = omega (arith, clashes (codes "proxy") (audit k asking) is asks)
+        by_task (dap asking) asks = omega (arith, clashes (codes "proxy") (dap asking) is asks)
         by_task (engine a k asking) asks = omega (arith, clashes (codes "proxy") (engine a k asking) is asks)
         by_task (ide n s) asks = omega (arith, clashes (codes "proxy") (ide n s) is asks)
         by_task (replay e asking) asks = omega (arith, clashes (codes "proxy") (replay e asking) is asks)
@@ -709,6 +625,7 @@ module _ (words : List (String Global)) (name : Text) (rows : List Row) (i : IsG
       by (talk_given x0 x1 x2) at = absurd (omega (arith, differs (codes "proxy") (talk_given x0 x1 x2) at is))
       by (tape_given x0 x1 x2) at = absurd (omega (arith, differs (codes "proxy") (tape_given x0 x1 x2) at is))
       by (audit_given x0 x1 x2) at = absurd (omega (arith, differs (codes "proxy") (audit_given x0 x1 x2) at is))
+      by (dap_given x0 x1) at = absurd (omega (arith, differs (codes "proxy") (dap_given x0 x1) at is))
       by (engine_given x0 x1 x2 x3 x4) at =
           absurd (omega (arith, differs (codes "proxy") (engine_given x0 x1 x2 x3 x4) at is))
       by (ide_given x0 x1) at = absurd (omega (arith, differs (codes "proxy") (ide_given x0 x1) at is))
@@ -719,16 +636,17 @@ module _ (words : List (String Global)) (name : Text) (rows : List Row) (i : IsG
     -- ---- `show`: no other name is left
 
     pub show_found : (name ≡ codes "run" → ⊥) → (name ≡ codes "talk" → ⊥) → (name ≡ codes "tape" → ⊥)
-        → (name ≡ codes "audit" → ⊥) → (name ≡ codes "engine" → ⊥)
+        → (name ≡ codes "audit" → ⊥) → (name ≡ codes "dap" → ⊥) → (name ≡ codes "engine" → ⊥)
         → (name ≡ codes "ide" → ⊥) → (name ≡ codes "replay" → ⊥) → (name ≡ codes "soak" → ⊥)
         → (name ≡ codes "proxy" → ⊥) → IsInvocation all show
-    show_found a b t u c d e f p = by i.given refl where
+    show_found a b t u w c d e f p = by i.given refl where
       by : (g : Given) → i.given ≡ g → IsInvocation all show
       by show_given at = words_at show_given at
       by (run_given bound files) at = absurd (a (i.name_is ∙ ap name_in at))
       by (talk_given bound key files) at = absurd (b (i.name_is ∙ ap name_in at))
       by (tape_given bound key files) at = absurd (t (i.name_is ∙ ap name_in at))
       by (audit_given bound key files) at = absurd (u (i.name_is ∙ ap name_in at))
+      by (dap_given bound files) at = absurd (w (i.name_is ∙ ap name_in at))
       by (engine_given bound host port key files) at = absurd (c (i.name_is ∙ ap name_in at))
       by (ide_given port script) at = absurd (d (i.name_is ∙ ap name_in at))
       by (replay_given bound events files) at = absurd (e (i.name_is ∙ ap name_in at))

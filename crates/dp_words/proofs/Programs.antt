@@ -83,6 +83,10 @@ pub audit_known : Known (codes "audit") (P (codes "audit") talk_words)
 unfolding clap_on_literals
 audit_known = record { met_so = refl; taken = refl; found = λ b. refl; rows = λ b. refl }
 
+pub dap_known : Known (codes "dap") (P (codes "dap") [])
+unfolding clap_on_literals
+dap_known = record { met_so = refl; taken = refl; found = λ b. refl; rows = λ b. refl }
+
 pub engine_known : Known (codes "engine") (P (codes "engine") engine_words)
 unfolding clap_on_literals
 engine_known = record { met_so = refl; taken = refl; found = λ b. refl; rows = λ b. refl }

@@ -1,12 +1,13 @@
 -- What the matches of `talk`, `tape` and `audit` hold says what is asked for.
 use Rattle.std.proofs.Common.{◌≡◌, List, ◌∷◌, ◌++◌, map, Some, refl, sym, ap, ◌∙◌, subst, arith, codes, String, string_bytes, Global}
 use Rattle.clap.specs.Walk.{Row, Text, first_of}
-use Rattle.dp_words.specs.Words.{Invocation, IsInvocation, IsSession, Task, run, talk, tape, audit, engine, ide, replay, soak, proxy, show, invocation_of}
-use Rattle.dp_words.specs.inner.Given.{Given, engine_given, ide_given, proxy_given, replay_given, run_given, show_given, soak_given, talk_given, tape_given, audit_given, requested, bound_in, bounded, files_in, first_in, name_in, rows_in, words_in}
+use Rattle.dp_words.specs.Words.{Invocation, IsInvocation, IsSession, Task, run, talk, tape, audit, dap, engine, ide, replay, soak, proxy, show, invocation_of}
+use Rattle.dp_words.specs.inner.Given.{Given, engine_given, ide_given, proxy_given, replay_given, run_given, show_given, soak_given, talk_given, tape_given, audit_given, dap_given, requested, bound_in, bounded, files_in, first_in, name_in, rows_in, words_in}
 use Rattle.dp_words.specs.inner.Rows.{IsGiven, program_in}
 use Rattle.dp_words.proofs.CommandReadings.{name_of}
 use Rattle.dp_words.proofs.GivenLaws as law
-use Rattle.dp_words.proofs.GivenLaws.{key_of_audit, key_of_talk, key_of_tape, letters, longer, shorter, the_same}
+use Rattle.dp_words.proofs.GivenLaws.{letters, longer, shorter, the_same}
+use Rattle.dp_words.proofs.RowLaws.{key_of_audit, key_of_talk, key_of_tape}
 
 module _ (words : List (String Global)) (name : Text) (rows : List Row) (i : IsGiven (map string_bytes words) name
     rows)
@@ -60,6 +61,7 @@ module _ (words : List (String Global)) (name : Text) (rows : List Row) (i : IsG
       by (run_given x0 x1) at = absurd (omega (arith, differs (codes "talk") (run_given x0 x1) at is))
       by (tape_given x0 x1 x2) at = absurd (omega (arith, differs (codes "talk") (tape_given x0 x1 x2) at is))
       by (audit_given x0 x1 x2) at = absurd (omega (arith, differs (codes "talk") (audit_given x0 x1 x2) at is))
+      by (dap_given x0 x1) at = absurd (omega (arith, differs (codes "talk") (dap_given x0 x1) at is))
       by (engine_given x0 x1 x2 x3 x4) at =
           absurd (omega (arith, differs (codes "talk") (engine_given x0 x1 x2 x3 x4) at is))
       by (ide_given x0 x1) at = absurd (omega (arith, differs (codes "talk") (ide_given x0 x1) at is))
@@ -88,6 +90,7 @@ module _ (words : List (String Global)) (name : Text) (rows : List Row) (i : IsG
         by_task (run asking) asks = omega (arith, clashes (codes "talk") (run asking) is asks)
         by_task (tape k asking) asks = omega (arith, clashes (codes "talk") (tape k asking) is asks)
         by_task (audit k asking) asks = omega (arith, clashes (codes "talk") (audit k asking) is asks)
+        by_task (dap asking) asks = omega (arith, clashes (codes "talk") (dap asking) is asks)
         by_task (engine a k asking) asks = omega (arith, clashes (codes "talk") (engine a k asking) is asks)
         by_task (ide n s) asks = omega (arith, clashes (codes "talk") (ide n s) is asks)
         by_task (replay e asking) asks = omega (arith, clashes (codes "talk") (replay e asking) is asks)
@@ -97,6 +100,7 @@ module _ (words : List (String Global)) (name : Text) (rows : List Row) (i : IsG
       by (run_given x0 x1) at = absurd (omega (arith, differs (codes "talk") (run_given x0 x1) at is))
       by (tape_given x0 x1 x2) at = absurd (omega (arith, differs (codes "talk") (tape_given x0 x1 x2) at is))
       by (audit_given x0 x1 x2) at = absurd (omega (arith, differs (codes "talk") (audit_given x0 x1 x2) at is))
+      by (dap_given x0 x1) at = absurd (omega (arith, differs (codes "talk") (dap_given x0 x1) at is))
       by (engine_given x0 x1 x2 x3 x4) at =
           absurd (omega (arith, differs (codes "talk") (engine_given x0 x1 x2 x3 x4) at is))
       by (ide_given x0 x1) at = absurd (omega (arith, differs (codes "talk") (ide_given x0 x1) at is))
@@ -128,6 +132,7 @@ module _ (words : List (String Global)) (name : Text) (rows : List Row) (i : IsG
       by (run_given x0 x1) at = absurd (omega (arith, differs (codes "tape") (run_given x0 x1) at is))
       by (talk_given x0 x1 x2) at = absurd (omega (arith, differs (codes "tape") (talk_given x0 x1 x2) at is))
       by (audit_given x0 x1 x2) at = absurd (omega (arith, differs (codes "tape") (audit_given x0 x1 x2) at is))
+      by (dap_given x0 x1) at = absurd (omega (arith, differs (codes "tape") (dap_given x0 x1) at is))
       by (engine_given x0 x1 x2 x3 x4) at =
           absurd (omega (arith, differs (codes "tape") (engine_given x0 x1 x2 x3 x4) at is))
       by (ide_given x0 x1) at = absurd (omega (arith, differs (codes "tape") (ide_given x0 x1) at is))
@@ -156,6 +161,7 @@ module _ (words : List (String Global)) (name : Text) (rows : List Row) (i : IsG
         by_task (run asking) asks = omega (arith, clashes (codes "tape") (run asking) is asks)
         by_task (talk k asking) asks = omega (arith, clashes (codes "tape") (talk k asking) is asks)
         by_task (audit k asking) asks = omega (arith, clashes (codes "tape") (audit k asking) is asks)
+        by_task (dap asking) asks = omega (arith, clashes (codes "tape") (dap asking) is asks)
         by_task (engine a k asking) asks = omega (arith, clashes (codes "tape") (engine a k asking) is asks)
         by_task (ide n s) asks = omega (arith, clashes (codes "tape") (ide n s) is asks)
         by_task (replay e asking) asks = omega (arith, clashes (codes "tape") (replay e asking) is asks)
@@ -165,6 +171,7 @@ module _ (words : List (String Global)) (name : Text) (rows : List Row) (i : IsG
       by (run_given x0 x1) at = absurd (omega (arith, differs (codes "tape") (run_given x0 x1) at is))
       by (talk_given x0 x1 x2) at = absurd (omega (arith, differs (codes "tape") (talk_given x0 x1 x2) at is))
       by (audit_given x0 x1 x2) at = absurd (omega (arith, differs (codes "tape") (audit_given x0 x1 x2) at is))
+      by (dap_given x0 x1) at = absurd (omega (arith, differs (codes "tape") (dap_given x0 x1) at is))
       by (engine_given x0 x1 x2 x3 x4) at =
           absurd (omega (arith, differs (codes "tape") (engine_given x0 x1 x2 x3 x4) at is))
       by (ide_given x0 x1) at = absurd (omega (arith, differs (codes "tape") (ide_given x0 x1) at is))
@@ -196,6 +203,7 @@ module _ (words : List (String Global)) (name : Text) (rows : List Row) (i : IsG
       by (run_given x0 x1) at = absurd (omega (arith, differs (codes "audit") (run_given x0 x1) at is))
       by (talk_given x0 x1 x2) at = absurd (omega (arith, differs (codes "audit") (talk_given x0 x1 x2) at is))
       by (tape_given x0 x1 x2) at = absurd (omega (arith, differs (codes "audit") (tape_given x0 x1 x2) at is))
+      by (dap_given x0 x1) at = absurd (omega (arith, differs (codes "audit") (dap_given x0 x1) at is))
       by (engine_given x0 x1 x2 x3 x4) at =
           absurd (omega (arith, differs (codes "audit") (engine_given x0 x1 x2 x3 x4) at is))
       by (ide_given x0 x1) at = absurd (omega (arith, differs (codes "audit") (ide_given x0 x1) at is))
@@ -224,6 +232,7 @@ module _ (words : List (String Global)) (name : Text) (rows : List Row) (i : IsG
         by_task (run asking) asks = omega (arith, clashes (codes "audit") (run asking) is asks)
         by_task (talk k asking) asks = omega (arith, clashes (codes "audit") (talk k asking) is asks)
         by_task (tape k asking) asks = omega (arith, clashes (codes "audit") (tape k asking) is asks)
+        by_task (dap asking) asks = omega (arith, clashes (codes "audit") (dap asking) is asks)
         by_task (engine a k asking) asks = omega (arith, clashes (codes "audit") (engine a k asking) is asks)
         by_task (ide n s) asks = omega (arith, clashes (codes "audit") (ide n s) is asks)
         by_task (replay e asking) asks = omega (arith, clashes (codes "audit") (replay e asking) is asks)
@@ -233,6 +242,7 @@ module _ (words : List (String Global)) (name : Text) (rows : List Row) (i : IsG
       by (run_given x0 x1) at = absurd (omega (arith, differs (codes "audit") (run_given x0 x1) at is))
       by (talk_given x0 x1 x2) at = absurd (omega (arith, differs (codes "audit") (talk_given x0 x1 x2) at is))
       by (tape_given x0 x1 x2) at = absurd (omega (arith, differs (codes "audit") (tape_given x0 x1 x2) at is))
+      by (dap_given x0 x1) at = absurd (omega (arith, differs (codes "audit") (dap_given x0 x1) at is))
       by (engine_given x0 x1 x2 x3 x4) at =
           absurd (omega (arith, differs (codes "audit") (engine_given x0 x1 x2 x3 x4) at is))
       by (ide_given x0 x1) at = absurd (omega (arith, differs (codes "audit") (ide_given x0 x1) at is))

@@ -5,7 +5,7 @@ use Rattle.dp_words.specs.declared.words.Command.{Command}
 use Rattle.dp_words.specs.declared.words.Program.{Program}
 use Rattle.dp_words.specs.declared.words.Proxy.{Proxy}
 use Rattle.dp_words.specs.declared.words.Command.TheVariants as told
-use Rattle.dp_words.specs.Words.{Address, Invocation, Service, Task, run, talk, tape, audit, engine, ide, replay, soak, proxy, show}
+use Rattle.dp_words.specs.Words.{Address, Invocation, Service, Task, run, talk, tape, audit, dap, engine, ide, replay, soak, proxy, show}
 
 -- a program that is asked for
 abbrev pub invocation_seen : Program → Invocation
@@ -31,6 +31,7 @@ task_of (told.Run program) = run (invocation_seen program)
 task_of (told.Talk request) = talk request.key.now (invocation_seen request.program)
 task_of (told.Tape request) = tape request.key.now (invocation_seen request.program)
 task_of (told.Audit request) = audit request.key.now (invocation_seen request.program)
+task_of (told.Dap program) = dap (invocation_seen program)
 task_of (told.Engine request) =
     engine (address_seen request.address) request.talk.key.now
     (invocation_seen request.talk.program)

@@ -74,7 +74,7 @@ pub record AreFileWords (names : List (List ℕ)) : Type 0 where
   pub named : All IsFileWord names
   pub apart : are_apart names ≡ true
 
--- what stands behind `run`
+-- what stands behind `run`, and behind `dap`
 pub record RunWords (words : List (List ℕ)) (ask : Invocation) : Type 0 where
   pub invocation : invocation_of words ≡ Some ask
   pub files : AreFileWords ask.names
@@ -114,6 +114,12 @@ pub record IsAudit (words : List (List ℕ)) (key : List ℕ) (ask : Invocation)
   pub behind : List (List ℕ)
   pub words_are : words ≡ codes "audit" ∷ behind
   pub speaks : TalkWords behind key ask
+
+-- the words are `dap [--bound N] FILE..`
+pub record IsDap (words : List (List ℕ)) (ask : Invocation) : Type 0 where
+  pub behind : List (List ℕ)
+  pub words_are : words ≡ codes "dap" ∷ behind
+  pub follows : RunWords behind ask
 
 -- a word that is the name or address of a machine, and asks for no option
 pub record IsHostWord (word : List ℕ) : Type 0 where
@@ -222,6 +228,7 @@ pub data Task : Type 0 where
   talk : (key : List ℕ) → Invocation → Task
   tape : (key : List ℕ) → Invocation → Task
   audit : (key : List ℕ) → Invocation → Task
+  dap : Invocation → Task
   engine : Address → (key : List ℕ) → Invocation → Task
   ide : (port : ℕ) → (script : List ℕ) → Task
   replay : (events : List ℕ) → Invocation → Task
@@ -235,6 +242,7 @@ IsInvocation words (run ask) = IsRun words ask
 IsInvocation words (talk key ask) = IsTalk words key ask
 IsInvocation words (tape key ask) = IsTape words key ask
 IsInvocation words (audit key ask) = IsAudit words key ask
+IsInvocation words (dap ask) = IsDap words ask
 IsInvocation words (engine address key ask) = IsEngine words address key ask
 IsInvocation words (ide port script) = IsIde words port script
 IsInvocation words (replay events ask) = IsReplay words events ask
@@ -248,6 +256,7 @@ invocation_in (run ask) = Some ask
 invocation_in (talk key ask) = Some ask
 invocation_in (tape key ask) = Some ask
 invocation_in (audit key ask) = Some ask
+invocation_in (dap ask) = Some ask
 invocation_in (engine address key ask) = Some ask
 invocation_in (ide port script) = None
 invocation_in (replay events ask) = None

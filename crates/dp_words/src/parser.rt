@@ -85,6 +85,13 @@ fn audit<'a>(alloc: Global) -> Result<Command<'a>, AllocError>
         .arg(files(alloc))
 }
 
+/// `dap [--bound N] FILE..`
+fn dap<'a>(alloc: Global) -> Result<Command<'a>, AllocError>
+    ensures { IfOk result (λ c. shape_of c ≡ shape.dap) }
+{
+    bounded(alloc, "dap")?.arg(files(alloc))
+}
+
 /// `engine [--bound N] HOST PORT KEY FILE..`
 fn engine<'a>(alloc: Global) -> Result<Command<'a>, AllocError>
     ensures { IfOk result (λ c. shape_of c ≡ shape.engine) }
@@ -155,6 +162,7 @@ fn program<'a>(alloc: Global) -> Result<Command<'a>, AllocError>
         .subcommand(talk(alloc)?)?
         .subcommand(tape(alloc)?)?
         .subcommand(audit(alloc)?)?
+        .subcommand(dap(alloc)?)?
         .subcommand(engine(alloc)?)?
         .subcommand(ide(alloc)?)?
         .subcommand(replay(alloc)?)?

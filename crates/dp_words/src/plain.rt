@@ -29,6 +29,7 @@ fn has_bound(name: &str) -> bool
         || name == "talk"
         || name == "tape"
         || name == "audit"
+        || name == "dap"
         || name == "engine"
         || name == "replay"
 }

@@ -89,6 +89,8 @@ pub enum Command<'a> {
     Tape(Talk<'a>),
     /// Whether a record of one is honest.
     Audit(Talk<'a>),
+    /// One session over a program, in the Debug Adapter Protocol.
+    Dap(Program<'a>),
     /// One session over a link.
     Engine(Engine<'a>),
     /// A script over a link.
@@ -152,7 +154,7 @@ fn program_in<'a>(words: &'a [String], given: &ArgMatches<'a>) -> Option<Program
     Some(Program { bound, files })
 }
 
-/// `run [--bound N] FILE..`
+/// `run [--bound N] FILE..`, and `dap` likewise
 fn read_run<'a>(words: &'a [String], given: &ArgMatches<'a>) -> Option<Program<'a>>
     requires few { count_in (rows_of (found_of given.now)) ≤ length words.now }
     ensures found { IfSome result (λ p.
@@ -399,7 +401,7 @@ fn read_proxy(given: &ArgMatches) -> Option<Proxy>
 }
 
 /// What a command of this name asks for with what it is given.
-#[tactic(auto, using(crate::proofs::GivenLaws::few_files))]
+#[tactic(auto, using(crate::proofs::RowLaws::few_files))]
 fn command_named<'a>(words: &'a [String], name: &str, given: &ArgMatches<'a>) -> Option<Command<'a>>
     requires given { IsGiven (map string_bytes words.now) name.now (rows_of (found_of given.now)) }
     ensures found { IfSome result (λ command. IsInvocation (map string_bytes words.entry.now) (task_of command)) }
@@ -416,6 +418,9 @@ fn command_named<'a>(words: &'a [String], name: &str, given: &ArgMatches<'a>) ->
     }
     if name == "audit" {
         return Some(Command::Audit(read_talk(words, given)?));
+    }
+    if name == "dap" {
+        return Some(Command::Dap(read_run(words, given)?));
     }
     if name == "engine" {
         return Some(Command::Engine(read_engine(words, given)?));

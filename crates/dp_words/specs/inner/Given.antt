@@ -13,6 +13,7 @@ pub data Given : Type 0 where
   talk_given : (bound : Option Text) → (key : Text) → (files : List Text) → Given
   tape_given : (bound : Option Text) → (key : Text) → (files : List Text) → Given
   audit_given : (bound : Option Text) → (key : Text) → (files : List Text) → Given
+  dap_given : (bound : Option Text) → (files : List Text) → Given
   engine_given : (bound : Option Text) → (host port key : Text) → (files : List Text) → Given
   ide_given : (port script : Text) → Given
   replay_given : (bound : Option Text) → (events : Text) → (files : List Text) → Given
@@ -27,6 +28,7 @@ name_in (run_given bound files) = codes "run"
 name_in (talk_given bound key files) = codes "talk"
 name_in (tape_given bound key files) = codes "tape"
 name_in (audit_given bound key files) = codes "audit"
+name_in (dap_given bound files) = codes "dap"
 name_in (engine_given bound host port key files) = codes "engine"
 name_in (ide_given port script) = codes "ide"
 name_in (replay_given bound events files) = codes "replay"
@@ -39,6 +41,7 @@ bound_in (run_given bound files) = bound
 bound_in (talk_given bound key files) = bound
 bound_in (tape_given bound key files) = bound
 bound_in (audit_given bound key files) = bound
+bound_in (dap_given bound files) = bound
 bound_in (engine_given bound host port key files) = bound
 bound_in (ide_given port script) = None
 bound_in (replay_given bound events files) = bound
@@ -52,6 +55,7 @@ first_in (run_given bound files) = []
 first_in (talk_given bound key files) = key ∷ []
 first_in (tape_given bound key files) = key ∷ []
 first_in (audit_given bound key files) = key ∷ []
+first_in (dap_given bound files) = []
 first_in (engine_given bound host port key files) = host ∷ port ∷ key ∷ []
 first_in (ide_given port script) = port ∷ script ∷ []
 first_in (replay_given bound events files) = events ∷ []
@@ -65,6 +69,7 @@ files_in (run_given bound files) = files
 files_in (talk_given bound key files) = files
 files_in (tape_given bound key files) = files
 files_in (audit_given bound key files) = files
+files_in (dap_given bound files) = files
 files_in (engine_given bound host port key files) = files
 files_in (ide_given port script) = []
 files_in (replay_given bound events files) = files
@@ -123,6 +128,7 @@ ids_in (run_given bound files) = []
 ids_in (talk_given bound key files) = talk_words
 ids_in (tape_given bound key files) = talk_words
 ids_in (audit_given bound key files) = talk_words
+ids_in (dap_given bound files) = []
 ids_in (engine_given bound host port key files) = engine_words
 ids_in (ide_given port script) = ide_words
 ids_in (replay_given bound events files) = replay_words

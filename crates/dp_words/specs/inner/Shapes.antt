@@ -76,6 +76,9 @@ tape = program_row (codes "tape") talk_words
 abbrev pub audit : Shape
 audit = program_row (codes "audit") talk_words
 
+abbrev pub dap : Shape
+dap = program_row (codes "dap") []
+
 abbrev pub engine : Shape
 engine = program_row (codes "engine") engine_words
 
@@ -109,5 +112,5 @@ settings = record { top = top; subs = [] }
 abbrev pub program : App
 program = record {
   top = record top { is_leaf = false };
-  subs = run ∷ talk ∷ tape ∷ audit ∷ engine ∷ ide ∷ replay ∷ soak ∷ proxy ∷ show ∷ [];
+  subs = run ∷ talk ∷ tape ∷ audit ∷ dap ∷ engine ∷ ide ∷ replay ∷ soak ∷ proxy ∷ show ∷ [];
 }

@@ -17,6 +17,7 @@ returns c =
     let talk_is : shape_of c.in_ok-talk.field-0 ≡ row.talk = c.in_ok-talk.ensures in
     let tape_is : shape_of c.in_ok-tape.field-0 ≡ row.tape = c.in_ok-tape.ensures in
     let audit_is : shape_of c.in_ok-audit.field-0 ≡ row.audit = c.in_ok-audit.ensures in
+    let dap_is : shape_of c.in_ok-dap.field-0 ≡ row.dap = c.in_ok-dap.ensures in
     let engine_is : shape_of c.in_ok-engine.field-0 ≡ row.engine = c.in_ok-engine.ensures in
     let ide_is : shape_of c.in_ok-ide.field-0 ≡ row.ide = c.in_ok-ide.ensures in
     let replay_is : shape_of c.in_ok-replay.field-0 ≡ row.replay = c.in_ok-replay.ensures in
@@ -28,10 +29,11 @@ returns c =
     let two = c.in_ok-subcommand-2.ensures.shape (local _ _ talk_is refl) ∙ ap₂ with_subcommand one talk_is in
     let three = c.in_ok-subcommand-3.ensures.shape (local _ _ tape_is refl) ∙ ap₂ with_subcommand two tape_is in
     let four = c.in_ok-subcommand-4.ensures.shape (local _ _ audit_is refl) ∙ ap₂ with_subcommand three audit_is in
-    let five = c.in_ok-subcommand-5.ensures.shape (local _ _ engine_is refl) ∙ ap₂ with_subcommand four engine_is in
-    let six = c.in_ok-subcommand-6.ensures.shape (local _ _ ide_is refl) ∙ ap₂ with_subcommand five ide_is in
-    let seven = c.in_ok-subcommand-7.ensures.shape (local _ _ replay_is refl) ∙ ap₂ with_subcommand six replay_is in
-    let eight = c.in_ok-subcommand-8.ensures.shape (local _ _ soak_is refl) ∙ ap₂ with_subcommand seven soak_is in
-    let nine = c.in_ok-subcommand-9.ensures.shape (local _ _ proxy_is refl) ∙ ap₂ with_subcommand eight proxy_is in
-    IfOk-weaker c.subcommand-10.result _ _ (λ r h. h.shape c.new.ensures.local ∙ ap₂ with_subcommand nine show_is)
-    c.subcommand-10.ensures
+    let five = c.in_ok-subcommand-5.ensures.shape (local _ _ dap_is refl) ∙ ap₂ with_subcommand four dap_is in
+    let six = c.in_ok-subcommand-6.ensures.shape (local _ _ engine_is refl) ∙ ap₂ with_subcommand five engine_is in
+    let seven = c.in_ok-subcommand-7.ensures.shape (local _ _ ide_is refl) ∙ ap₂ with_subcommand six ide_is in
+    let eight = c.in_ok-subcommand-8.ensures.shape (local _ _ replay_is refl) ∙ ap₂ with_subcommand seven replay_is in
+    let nine = c.in_ok-subcommand-9.ensures.shape (local _ _ soak_is refl) ∙ ap₂ with_subcommand eight soak_is in
+    let ten = c.in_ok-subcommand-10.ensures.shape (local _ _ proxy_is refl) ∙ ap₂ with_subcommand nine proxy_is in
+    IfOk-weaker c.subcommand-11.result _ _ (λ r h. h.shape c.new.ensures.local ∙ ap₂ with_subcommand ten show_is)
+    c.subcommand-11.ensures

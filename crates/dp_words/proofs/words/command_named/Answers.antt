@@ -1,7 +1,7 @@
 use Rattle.std.proofs.Common.{◌≡◌, Option, Some, None, true, false, sym, ◌∙◌, rules, codes}
 use Rattle.std.specs.Prelude.{IfNone}
 use Rattle.dp_words.specs.Commands.{address_seen, invocation_seen, service_seen}
-use Rattle.dp_words.proofs.GivenLaws.{engine_found, engine_none, ide_found, ide_none, proxy_found, proxy_none, replay_found, replay_none, run_found, run_none, show_found, soak_found, soak_none}
+use Rattle.dp_words.proofs.GivenLaws.{dap_found, dap_none, engine_found, engine_none, ide_found, ide_none, proxy_found, proxy_none, replay_found, replay_none, run_found, run_none, show_found, soak_found, soak_none}
 use Rattle.dp_words.proofs.SessionLaws.{audit_found, audit_none, talk_found, talk_none, tape_found, tape_none}
 use Rattle.dp_words.proofs.words.command_named.Goals as goal
 
@@ -62,6 +62,18 @@ returns-in_err-read_talk-3-clause-none c =
 
 pub returns-then-eq-5-clause-found : goal.returns-then-eq-5-clause-found
 returns-then-eq-5-clause-found c =
+    let named : c.args.name.now ≡ codes "dap" = search rules in
+    let v = c.in_ok-read_run-2.field-0 in
+    let f = c.in_ok-read_run-2.ensures.found in
+    dap_found c.args.words.now c.args.name.now _ c.requires.given named (invocation_seen v) f.0 f.1
+
+pub returns-in_err-read_run-2-clause-none : goal.returns-in_err-read_run-2-clause-none
+returns-in_err-read_run-2-clause-none c =
+    let named : c.args.name.now ≡ codes "dap" = search rules in
+    none_so _ _ (dap_none c.args.words.now c.args.name.now _ c.requires.given named c.in_err-read_run-2.ensures.none)
+
+pub returns-then-eq-6-clause-found : goal.returns-then-eq-6-clause-found
+returns-then-eq-6-clause-found c =
     let named : c.args.name.now ≡ codes "engine" = search rules in
     let v = c.in_ok-read_engine.field-0 in
     let f = c.in_ok-read_engine.ensures.found in
@@ -74,8 +86,8 @@ returns-in_err-read_engine-clause-none c =
     none_so _ _ (engine_none c.args.words.now c.args.name.now _ c.requires.given named
     c.in_err-read_engine.ensures.none)
 
-pub returns-then-eq-6-clause-found : goal.returns-then-eq-6-clause-found
-returns-then-eq-6-clause-found c =
+pub returns-then-eq-7-clause-found : goal.returns-then-eq-7-clause-found
+returns-then-eq-7-clause-found c =
     let named : c.args.name.now ≡ codes "ide" = search rules in
     let v = c.in_ok-read_ide.field-0 in
     let f = c.in_ok-read_ide.ensures.found in
@@ -86,8 +98,8 @@ returns-in_err-read_ide-clause-none c =
     let named : c.args.name.now ≡ codes "ide" = search rules in
     none_so _ _ (ide_none c.args.words.now c.args.name.now _ c.requires.given named c.in_err-read_ide.ensures.none)
 
-pub returns-then-eq-7-clause-found : goal.returns-then-eq-7-clause-found
-returns-then-eq-7-clause-found c =
+pub returns-then-eq-8-clause-found : goal.returns-then-eq-8-clause-found
+returns-then-eq-8-clause-found c =
     let named : c.args.name.now ≡ codes "replay" = search rules in
     let v = c.in_ok-read_replay.field-0 in
     let f = c.in_ok-read_replay.ensures.found in
@@ -100,8 +112,8 @@ returns-in_err-read_replay-clause-none c =
     none_so _ _ (replay_none c.args.words.now c.args.name.now _ c.requires.given named
     c.in_err-read_replay.ensures.none)
 
-pub returns-then-eq-8-clause-found : goal.returns-then-eq-8-clause-found
-returns-then-eq-8-clause-found c =
+pub returns-then-eq-9-clause-found : goal.returns-then-eq-9-clause-found
+returns-then-eq-9-clause-found c =
     let named : c.args.name.now ≡ codes "soak" = search rules in
     let v = c.in_ok-read_soak.field-0 in
     let f = c.in_ok-read_soak.ensures.found in
@@ -112,8 +124,8 @@ returns-in_err-read_soak-clause-none c =
     let named : c.args.name.now ≡ codes "soak" = search rules in
     none_so _ _ (soak_none c.args.words.now c.args.name.now _ c.requires.given named c.in_err-read_soak.ensures.none)
 
-pub returns-then-eq-9-clause-found : goal.returns-then-eq-9-clause-found
-returns-then-eq-9-clause-found c =
+pub returns-then-eq-10-clause-found : goal.returns-then-eq-10-clause-found
+returns-then-eq-10-clause-found c =
     let named : c.args.name.now ≡ codes "proxy" = search rules in
     let v = c.in_ok-read_proxy.field-0 in
     let f = c.in_ok-read_proxy.ensures.found in
@@ -138,20 +150,23 @@ returns-clause-found c =
     let no_audit : c.args.name.now ≡ codes "audit" → ⊥ = λ e.
     let yes : c.eq-4.result ≡ true = search (rules, e) in
     let clash : true ≡ false = sym yes ∙ c.if-eq-4.false in absurd cc in
-    let no_engine : c.args.name.now ≡ codes "engine" → ⊥ = λ e.
+    let no_dap : c.args.name.now ≡ codes "dap" → ⊥ = λ e.
     let yes : c.eq-5.result ≡ true = search (rules, e) in
     let clash : true ≡ false = sym yes ∙ c.if-eq-5.false in absurd cc in
-    let no_ide : c.args.name.now ≡ codes "ide" → ⊥ = λ e.
+    let no_engine : c.args.name.now ≡ codes "engine" → ⊥ = λ e.
     let yes : c.eq-6.result ≡ true = search (rules, e) in
     let clash : true ≡ false = sym yes ∙ c.if-eq-6.false in absurd cc in
-    let no_replay : c.args.name.now ≡ codes "replay" → ⊥ = λ e.
+    let no_ide : c.args.name.now ≡ codes "ide" → ⊥ = λ e.
     let yes : c.eq-7.result ≡ true = search (rules, e) in
     let clash : true ≡ false = sym yes ∙ c.if-eq-7.false in absurd cc in
-    let no_soak : c.args.name.now ≡ codes "soak" → ⊥ = λ e.
+    let no_replay : c.args.name.now ≡ codes "replay" → ⊥ = λ e.
     let yes : c.eq-8.result ≡ true = search (rules, e) in
     let clash : true ≡ false = sym yes ∙ c.if-eq-8.false in absurd cc in
-    let no_proxy : c.args.name.now ≡ codes "proxy" → ⊥ = λ e.
+    let no_soak : c.args.name.now ≡ codes "soak" → ⊥ = λ e.
     let yes : c.eq-9.result ≡ true = search (rules, e) in
     let clash : true ≡ false = sym yes ∙ c.if-eq-9.false in absurd cc in
-    show_found c.args.words.now c.args.name.now _ c.requires.given no_run no_talk no_tape no_audit no_engine no_ide
-    no_replay no_soak no_proxy
+    let no_proxy : c.args.name.now ≡ codes "proxy" → ⊥ = λ e.
+    let yes : c.eq-10.result ≡ true = search (rules, e) in
+    let clash : true ≡ false = sym yes ∙ c.if-eq-10.false in absurd cc in
+    show_found c.args.words.now c.args.name.now _ c.requires.given no_run no_talk no_tape no_audit no_dap no_engine
+    no_ide no_replay no_soak no_proxy

@@ -1,0 +1,13 @@
+pub mod ArgumentLaws
+pub mod NulLaws
+pub mod MessageLaws
+pub mod FloatLaws
+pub mod SentLaws
+pub mod SetLaws
+pub mod TurnLaws
+pub mod AskLaws
+pub mod EffectLaws
+pub mod ServiceLaws
+pub mod CutLaws
+pub mod EndLaws
+pub mod ExchangeLaws

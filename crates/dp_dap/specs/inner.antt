@@ -1,0 +1,3 @@
+pub mod Lettered
+pub mod Effects
+pub mod Exchanges

@@ -1,0 +1,4 @@
+pub mod Lines
+pub mod Leads
+pub mod Effects
+pub mod Shown
