@@ -2,7 +2,7 @@
 
 #![tactic(auto, using(crate::proofs::AtOnceLaws::acting))]
 
-ghost use Rattle.std.specs.Prelude.{◌≡◌, [], IsTrue};
+ghost use Rattle.std.specs.Prelude.{◌≡◌, IsTrue};
 ghost use Rattle.dp_tree.specs.declared.operators.BinaryOp.TheVariants as operator;
 ghost use Rattle.dp_actions.specs.AtOnce.{AtOnce};
 ghost use Rattle.dp_actions.specs.Places.{combined, step_from as from_old, step_under, step_written, stepped};
@@ -29,21 +29,18 @@ pub fn combine(
 ) -> Result<Value, Halt>
     ensures { AtOnce (combined op name.now indices.now old value.now state.old) result state.new }
 {
-    if is_growth(op, indices) {
-        return grown(alloc, name, old, value, state);
+    if is_concat(op) {
+        return grown(alloc, name, indices, old, value, state);
     }
     let new = operated(alloc, op, old, value, state)?;
     assign_place(alloc, name, indices, false, new, state)
 }
 
-/// Whether a text is put behind what a whole variable holds.
-fn is_growth(op: BinaryOp, indices: &[Value]) -> bool
-    ensures { IsTrue result → (op ≡ operator.Concat) × (indices.now ≡ []) }
+/// Whether texts are joined.
+fn is_concat(op: BinaryOp) -> bool
+    ensures { IsTrue result → op ≡ operator.Concat }
 {
-    match op {
-        BinaryOp::Concat => indices.is_empty(),
-        _ => false,
-    }
+    matches!(op, BinaryOp::Concat)
 }
 
 /// Applies `++` or `--` to a place and gives the new or the old value, as `order` says.

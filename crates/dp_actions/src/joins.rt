@@ -1,22 +1,24 @@
 //! Texts that are joined: one that has no other owner grows in its place.
 
-ghost use Rattle.std.specs.Prelude.{◌≡◌, ◌++◌, [], false, IfOk};
+ghost use Rattle.std.specs.Prelude.{◌≡◌, ◌++◌, false, IfOk};
 ghost use Rattle.dp_tree.specs.declared.operators.BinaryOp.TheVariants as operator;
 ghost use Rattle.dp_value.specs.Value.{data_of};
 ghost use Rattle.dp_operations.specs.Binary.{binary_of};
 ghost use Rattle.dp_operations.specs.Text.{joined as joined_data, light_text, text_of};
 ghost use Rattle.dp_actions.specs.AtOnce.{AtOnce};
-ghost use Rattle.dp_actions.specs.Places.{assign_run, combined};
+ghost use Rattle.dp_actions.specs.Places.{combined};
+ghost use Rattle.dp_actions.specs.inner.Keyed.{keyed_write};
 ghost use Rattle.dp_actions.specs.Run.{and_then};
 ghost use Rattle.dp_actions.specs.Values.{value_run};
 
 use crate::answers::value_of;
 use crate::faults::{fatal, fault};
 use crate::halt::Halt;
+use crate::places::keys_of;
 use dp_operations::{binary, text};
 use dp_state::{FatalKind, State};
 use dp_tree::BinaryOp;
-use dp_value::{Bytes, Memory, Text, Value};
+use dp_value::{Bytes, Key, Memory, Text, Value};
 use std::alloc::Global;
 
 /// What an operator makes of two values.
@@ -79,27 +81,39 @@ fn text_of_value(alloc: Global, value: &Value) -> Result<Text, Memory>
     }
 }
 
-/// Puts the text of a value behind that of an old one, gives it to a variable, and gives it.
+/// Puts the text of a value behind that of an old one, writes it under indices, and gives it. An old text that has no
+/// owner but its place grows there.
 pub(crate) fn grown(
     alloc: Global,
     name: &Bytes,
+    indices: &[Value],
     old: Value,
     value: &Value,
     state: &mut State,
 ) -> Result<Value, Halt>
-    ensures { AtOnce (combined operator.Concat name.now [] old value.now state.old) result state.new }
+    ensures { AtOnce (combined operator.Concat name.now indices.now old value.now state.old) result state.new }
 {
     let piece = text_of_value(alloc, value)?;
+    let keys = keys_of(alloc, indices)?;
     let text = into_text(alloc, old)?;
-    grown_by(name, text, piece.as_slice(), state)
+    grown_by(name, keys.as_slice(), text, piece.as_slice(), state)
 }
 
-/// The same of a text and a piece.
-fn grown_by(name: &Bytes, text: Text, piece: &[u8], state: &mut State) -> Result<Value, Halt>
+/// The same of a text and a piece, under keys.
+fn grown_by(
+    name: &Bytes,
+    keys: &[Option<Key>],
+    text: Text,
+    piece: &[u8],
+    state: &mut State,
+) -> Result<Value, Halt>
     ensures { AtOnce (and_then (value_run (light_text (text ++ piece.now)) state.old)
-        (λ new t. assign_run name.now [] false new t)) result state.new }
+        (λ new t. keyed_write name.now keys.now false new t)) result state.new }
 {
-    match state.append(name, text, piece) {
+    if text.is_beyond(piece) {
+        return Err(fatal(FatalKind::TooHeavy, state));
+    }
+    match state.append(name, keys, text, piece) {
         Ok(longer) => Ok(Value::Text(longer)),
         Err(why) => Err(fault(why, state)),
     }

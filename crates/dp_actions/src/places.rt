@@ -157,7 +157,7 @@ pub fn unset_place(
 }
 
 /// The keys that indices become. One that is an array becomes none.
-fn keys_of(alloc: Global, indices: &[Value]) -> Result<Vec<Option<Key>>, Memory>
+pub(crate) fn keys_of(alloc: Global, indices: &[Value]) -> Result<Vec<Option<Key>>, Memory>
     ensures { IfOk result (λ keys. keys.items ≡ keys_of_indices indices.now) }
 {
     let mut keys = Vec::with_capacity(alloc, indices.len())?;

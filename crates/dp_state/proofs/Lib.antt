@@ -6,7 +6,7 @@ pub mod Slots
 pub mod Positions
 pub mod Homes
 pub mod VariableSteps
-pub mod Removals
+pub mod Refusals
 pub mod Parameters
 pub mod Kept
 pub mod LightTexts

@@ -12,7 +12,9 @@ ghost use Rattle.dp_state.specs.declared.vars.Slot.TheVariants as variable;
 use crate::moments::FatalKind;
 use crate::state::Fault;
 use crate::vars::{Slot, Vars};
-use dp_value::{Bytes, Key, Memory, Text, Value, WEIGHT_LIMIT, remove_at, weight, write_at};
+use dp_value::{
+    Bytes, Key, Memory, Text, Value, WEIGHT_LIMIT, append_at, remove_at, weight, write_at,
+};
 use std::alloc::Global;
 
 /// Gives a variable a value, or gives it to the entry of the variable under `keys`, or pushes it there.
@@ -25,7 +27,7 @@ pub(crate) fn assign_in(
 ) -> Result<(), Fault>
     ensures ok { OnOk result (assigned_in name.now keys.now push value vars.old ≡ Ok vars.new) }
     ensures refused { IfErr result (IsCauseIn (assigned_in name.now keys.now push value vars.old)) }
-    ensures sure { keys.now ≡ [] → push ≡ false → IsSureIn (assigned_in name.now keys.now push value vars.old) result }
+    ensures sure { IsSureIn (assigned_in name.now keys.now push value vars.old) result }
     ensures err { OnErr result (vars.new ≡ vars.old) }
 {
     let alloc = vars.allocator();
@@ -80,6 +82,7 @@ fn assign_new(
     requires { value_held (slot_of vars.old name.now) ≡ None }
     ensures ok { OnOk result (assigned_in name.now keys.now push value vars.old ≡ Ok vars.new) }
     ensures refused { IfErr result (IsCauseIn (assigned_in name.now keys.now push value vars.old)) }
+    ensures sure { IsSureIn (assigned_in name.now keys.now push value vars.old) result }
     ensures err { OnErr result (vars.new ≡ vars.old) }
 {
     let mut made = Value::Null;
@@ -92,46 +95,63 @@ fn assign_new(
     }
 }
 
-/// Gives a variable a text with a piece behind it. What it holds goes first, so that a text that has no owner beside it
-/// grows in its place.
+/// Gives a variable, or its entry under `keys`, a text with a piece behind it. What stands there goes first, so that a
+/// text that has no owner beside it grows in its place.
 pub(crate) fn append_in(
     vars: &mut Vars,
     name: &Bytes,
+    keys: &[Option<Key>],
     text: Text,
     piece: &[u8],
 ) -> Result<Text, Fault>
     ensures longer { IfOk result (λ longer. longer ≡ text ++ piece.now) }
-    ensures ok { OnOk result (assigned_in name.now [] false (variant.Text (text ++ piece.now)) vars.old ≡ Ok vars.new) }
-    ensures refused { IfErr result (IsCauseIn (assigned_in name.now [] false (variant.Text (text ++ piece.now))
+    ensures ok { OnOk result (assigned_in name.now keys.now false (variant.Text (text ++ piece.now)) vars.old ≡ Ok
+        vars.new) }
+    ensures refused { IfErr result (IsCauseIn (assigned_in name.now keys.now false (variant.Text (text ++ piece.now))
         vars.old)) }
-    ensures sure { IsSureIn (assigned_in name.now [] false (variant.Text (text ++ piece.now)) vars.old) result }
+    ensures sure { IsSureIn (assigned_in name.now keys.now false (variant.Text (text ++ piece.now)) vars.old) result }
     ensures err { IsFatal result → vars.new ≡ vars.old }
     ensures memory { result ≡ Err fault.Memory
-        → (vars.new ≡ vars.old) ⊎ (assigned_in name.now [] false variant.Null vars.old ≡ Ok vars.new) }
+        → (vars.new ≡ vars.old) ⊎ (assigned_in name.now keys.now false variant.Null vars.old ≡ Ok vars.new) }
 {
-    if text.is_beyond(piece) {
-        return Err(Fault::Fatal(FatalKind::TooHeavy));
-    }
     let alloc = vars.allocator();
-    let Some(held) = vars.exchange(name, Value::Null) else {
-        let (longer, copy) = twice(alloc, text, piece)?;
-        assign_new(alloc, vars, name, &[], false, Value::Text(longer))?;
-        return Ok(copy);
+    let Some(mut held) = vars.exchange(name, Value::Null) else {
+        return append_new(alloc, vars, name, keys, text, piece);
     };
-    drop(held);
-    let (longer, copy) = twice(alloc, text, piece)?;
-    let _ = vars.exchange(name, Value::Text(longer));
-    Ok(copy)
+    let done = append_at(alloc, &mut held, keys, text, piece);
+    let _ = vars.exchange(name, held);
+    match done {
+        Ok(longer) => Ok(longer),
+        Err(why) => Err(Fault::from(why)),
+    }
 }
 
-/// A text with a piece behind it, for two owners.
-fn twice(alloc: Global, text: Text, piece: &[u8]) -> Result<(Text, Text), Memory>
-    ensures { IfOk result (λ both. (both.0 ≡ text ++ piece.now) × (both.1 ≡ text ++ piece.now)) }
+/// The same where the name holds no value yet.
+fn append_new(
+    alloc: Global,
+    vars: &mut Vars,
+    name: &Bytes,
+    keys: &[Option<Key>],
+    text: Text,
+    piece: &[u8],
+) -> Result<Text, Fault>
+    requires { value_held (slot_of vars.old name.now) ≡ None }
+    ensures longer { IfOk result (λ longer. longer ≡ text ++ piece.now) }
+    ensures ok { OnOk result (assigned_in name.now keys.now false (variant.Text (text ++ piece.now)) vars.old ≡ Ok
+        vars.new) }
+    ensures refused { IfErr result (IsCauseIn (assigned_in name.now keys.now false (variant.Text (text ++ piece.now))
+        vars.old)) }
+    ensures sure { IsSureIn (assigned_in name.now keys.now false (variant.Text (text ++ piece.now)) vars.old) result }
+    ensures err { OnErr result (vars.new ≡ vars.old) }
 {
-    let mut longer = text;
-    longer.append(alloc, piece)?;
-    let copy = longer.try_clone()?;
-    Ok((longer, copy))
+    let mut made = Value::Null;
+    match append_at(alloc, &mut made, keys, text, piece) {
+        Ok(longer) => {
+            vars.set(name.try_clone()?, Slot::Held(made))?;
+            Ok(longer)
+        }
+        Err(why) => Err(Fault::from(why)),
+    }
 }
 
 /// Takes the entry of a variable under `keys` away. Where the name holds no value, nothing changes.

@@ -25,8 +25,8 @@ impl State {
     /// other owners: that one is copied first, and nothing beside the way.
     ///
     /// The causes are tried key by key: `Scalar` and `Unsupported` by what holds the entry, then `BadKey`; behind the
-    /// last key `NextIndex`, then `TooHeavy`. A whole variable is refused also where there is no memory. After a
-    /// refusal the state is as before.
+    /// last key `NextIndex`, then `TooHeavy`, all also where there is no memory. After a refusal, and after out of
+    /// memory, the state is as before.
     pub fn assign(
         &mut self,
         level: usize,
@@ -37,8 +37,7 @@ impl State {
     ) -> Result<(), Fault>
         ensures ok { OnOk result (assigned level name.now keys.now push value self.old ≡ Ok self.new) }
         ensures refused { IfErr result (IsCause (assigned level name.now keys.now push value self.old)) }
-        ensures sure { keys.now ≡ [] → push ≡ false
-            → IsSure (assigned level name.now keys.now push value self.old) result }
+        ensures sure { IsSure (assigned level name.now keys.now push value self.old) result }
         ensures err { OnErr result (self.new ≡ self.old) }
     {
         let at = self.home(level, name);
@@ -51,28 +50,34 @@ impl State {
         done
     }
 
-    /// Gives a variable of the top frame a text with a piece behind it, and gives it. If the text has no owner but the
-    /// one that is given here and the variable itself, it grows in its place.
+    /// Gives a variable of the top frame, or its entry under `keys`, a text with a piece behind it, and gives it. If the
+    /// text has no owner but the one that is given here and that place itself, it grows there.
     ///
-    /// `TooHeavy` comes exactly where the text would weigh more than a value may, also where there is no memory, and
-    /// then the state is as before. After out of memory it is as before, or the variable is null.
-    pub fn append(&mut self, name: &Bytes, text: Text, piece: &[u8]) -> Result<Text, Fault>
+    /// It is refused as by `assign`, also where there is no memory, and then the state is as before. After out of
+    /// memory it is as before, or null stands in that place.
+    pub fn append(
+        &mut self,
+        name: &Bytes,
+        keys: &[Option<Key>],
+        text: Text,
+        piece: &[u8],
+    ) -> Result<Text, Fault>
         ensures longer { IfOk result (λ longer. longer ≡ text ++ piece.now) }
-        ensures ok { OnOk result (assigned 0 name.now [] false (variant.Text (text ++ piece.now)) self.old ≡ Ok
+        ensures ok { OnOk result (assigned 0 name.now keys.now false (variant.Text (text ++ piece.now)) self.old ≡ Ok
             self.new) }
-        ensures refused { IfErr result (IsCause (assigned 0 name.now [] false (variant.Text (text ++ piece.now))
-            self.old)) }
-        ensures sure { IsSure (assigned 0 name.now [] false (variant.Text (text ++ piece.now)) self.old) result }
+        ensures refused { IfErr result (IsCause (assigned 0 name.now keys.now false (variant.Text
+            (text ++ piece.now)) self.old)) }
+        ensures sure { IsSure (assigned 0 name.now keys.now false (variant.Text (text ++ piece.now)) self.old) result }
         ensures err { IsFatal result → self.new ≡ self.old }
         ensures memory { result ≡ Err fault.Memory
-            → (self.new ≡ self.old) ⊎ (assigned 0 name.now [] false variant.Null self.old ≡ Ok self.new) }
+            → (self.new ≡ self.old) ⊎ (assigned 0 name.now keys.now false variant.Null self.old ≡ Ok self.new) }
     {
         let at = self.home(0, name);
         if at == 0 {
-            return append_in(&mut self.globals, name, text, piece);
+            return append_in(&mut self.globals, name, keys, text, piece);
         }
         let mut vars = self.take_own(at);
-        let done = append_in(&mut vars, name, text, piece);
+        let done = append_in(&mut vars, name, keys, text, piece);
         let _ = self.exchange_own(at, vars);
         done
     }

@@ -8,5 +8,6 @@ pub mod BehindLemmas
 pub mod IntTextLemmas
 pub mod ComparisonLemmas
 pub mod WriteLemmas
+pub mod AgainLemmas
 pub mod DecimalLemmas
 pub mod RemovalLemmas

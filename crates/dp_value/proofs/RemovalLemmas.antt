@@ -1,5 +1,5 @@
 -- What the removal of an entry leaves, and that it adds no weight.
-use Rattle.std.proofs.Common.{◌≡◌, ℤ, ◌≤◌, ◌==◌, Bool, true, false, if◌then◌else◌, List, [], ◌∷◌, Option, Some, None, Result, Ok, Err, IfErr, IsOk, OnOk, OnErr, length, inl, inr, refl, ap, sym, subst, ◌∙◌, arith}
+use Rattle.std.proofs.Common.{◌≡◌, ℤ, ◌≤◌, ◌<◌, ◌==◌, Bool, true, false, if◌then◌else◌, List, [], ◌∷◌, Option, Some, None, Result, Ok, Err, IfErr, IsOk, OnOk, OnErr, length, inl, inr, refl, ap, sym, subst, ◌∙◌, arith}
 use Rattle.std.proofs.lemmas.Bool.{false≢true}
 use Rattle.std.proofs.lemmas.Option.{same_Some}
 use Rattle.dp_value.specs.declared.errors.WriteError.{WriteError}
@@ -126,6 +126,14 @@ take_away-missing (p ∷ ps) k missing =
 pub nothing-removed : (t : Table) (k : Key) → value_at t k ≡ None → t ≡ table_remove t k
 nothing-removed t k missing =
     λ i. record { pairs = sym (take_away-missing t.pairs k missing) i; largest = t.largest }
+
+some-pairs : (ps : List (Key × Data)) (k : Key) (d : Data) → Some d ≡ find_value (key_eq k) ps → 0 < length ps
+some-pairs [] k d there = cc
+some-pairs (p ∷ ps) k d there = omega arith
+
+-- an array that has a key has an entry
+pub some-entry : (t : Table) (k : Key) (d : Data) → Some d ≡ value_at t k → 0 < length t.pairs
+some-entry t k d there = some-pairs t.pairs k d there
 
 module _ (k : Key) (rest : List (Option Key)) (t : Table) where
   abbrev by : Bool → Result Data WriteError

@@ -1,5 +1,6 @@
 -- What an exchange and a write do to pairs and their weight, and what a limit leaves beside a weight.
-use Rattle.std.proofs.Common.{◌≡◌, ℕ, ℤ, ◌+◌, ◌≤◌, ◌==◌, Bool, true, false, cond, nat_le, min, zero-add, List, [], ◌∷◌, Option, Some, None, Ok, Err, Result, IfErr, IsErrAnd, OnOk, OnErr, length, inl, inr, refl, ap, sym, ◌∙◌, subst, arith, ◌⊎◌}
+use Rattle.std.proofs.Common.{◌≡◌, ℕ, ℤ, ◌+◌, ◌≤◌, ◌<◌, ◌==◌, Bool, true, false, cond, if◌then◌else◌, nat_le, min, zero-add, List, [], ◌∷◌, Option, Some, None, Ok, Err, Result, is_ok, IsOk, OnOk, OnErr, length, inl, inr, refl, ap, sym, ◌∙◌, subst, arith, ◌⊎◌}
+use Rattle.std.proofs.lemmas.Bool.{false≢true}
 use Rattle.std.proofs.lemmas.Bool.Decides.{nat_tests}
 use Rattle.std.proofs.lemmas.Int.{ints, int_max_is}
 use Rattle.std.proofs.lemmas.List.Elements.{recursion_from_All}
@@ -16,8 +17,8 @@ use Rattle.dp_value.specs.inner.Codes.{table_from-data_of_table}
 use Rattle.dp_value.specs.Key.{key_eq}
 use Rattle.dp_value.specs.Data.{Data, Table, null, weight_of, pairs_weight, data_of_table}
 use Rattle.dp_value.specs.Table.{find_value, keys_of, put, raised, swapped, table_set, table_exchange, value_at, weight_limit, IsTable, IsUpTo}
-use Rattle.dp_value.specs.Entry.{entry_at, holder_of, then_data, then_table, within, light, written, IsCause}
-use Rattle.dp_value.specs.inner.Writes.{written_in}
+use Rattle.dp_value.specs.Entry.{entry_at, holder_of, then_data, then_table, within, light, write_result, written}
+use Rattle.dp_value.specs.inner.Writes.{cause_of, written_in}
 use Rattle.dp_value.proofs.KeyLemmas.{key_eq-Decides}
 
 -- ---- a key that is there
@@ -167,17 +168,30 @@ pub within_nothing : (r : Result Data WriteError) → within 0 r ≡ light r
 within_nothing (Err e) = refl
 within_nothing (Ok d) = ap (λ (n : ℕ). cond (nat_le n weight_limit) (Ok d) (Err TooHeavy)) (zero-add (weight_of d))
 
-light_enough-by : (n : ℕ) (d e : Data) (b : Bool) → nat_le (n + weight_of d) weight_limit ≡ b
-    → cond b (Ok d) (Err TooHeavy) ≡ Ok e → n + weight_of e ≤ weight_limit
-light_enough-by n d e true test h =
-    let same : weight_of d ≡ weight_of e = ap weight_of (cc) in
-    let below : n + weight_of d ≤ weight_limit = grind (arith, nat_tests) in
-    omega arith
-light_enough-by n d e false test h = let H : Result Data WriteError = Err TooHeavy in cc
+-- ---- values that are light
+pub light-true : (b : Bool) (d : Data) → IsOk (cond b (Ok d) (Err TooHeavy)) → b ≡ true
+light-true true d h = refl
+light-true false d h = absurd (false≢true h)
 
-pub light_enough : (n : ℕ) (r : Result Data WriteError) (e : Data) → within n r ≡ Ok e → n + weight_of e ≤ weight_limit
-light_enough n (Ok d) e h = light_enough-by n d e (nat_le (n + weight_of d) weight_limit) refl h
-light_enough n (Err x) e h = cc
+pub light_enough : (n : ℕ) (d : Data) → IsOk (cond (nat_le n weight_limit) (Ok d) (Err TooHeavy)) → n ≤ weight_limit
+light_enough n d h =
+    let test : nat_le n weight_limit ≡ true = light-true (nat_le n weight_limit) d h in grind (arith, nat_tests)
+
+light_is-by : (b : Bool) (d : Data) → IsOk (cond b (Ok d) (Err TooHeavy)) → cond b (Ok d) (Err TooHeavy) ≡ Ok d
+light_is-by true d h = refl
+light_is-by false d h = absurd (false≢true h)
+
+-- what is not refused for its weight is as it is
+pub light_is : (d : Data) → IsOk (light (Ok d)) → light (Ok d) ≡ Ok d
+light_is d h = light_is-by (nat_le (weight_of d) weight_limit) d h
+
+light_was-by : (b : Bool) (d e : Data) → cond b (Ok d) (Err TooHeavy) ≡ Ok e → d ≡ e
+light_was-by true d e h = cc
+light_was-by false d e h = let H : Result Data WriteError = Err TooHeavy in cc
+
+pub light_was : (r : Result Data WriteError) (e : Data) → light r ≡ Ok e → r ≡ Ok e
+light_was (Ok d) e h = ap Ok (light_was-by (nat_le (weight_of d) weight_limit) d e h)
+light_was (Err why) e h = cc
 
 -- ---- what is written
 pub holder_of-table : (t : Table) → holder_of (data_of_table t) ≡ Ok t
@@ -206,6 +220,15 @@ written-entered empty keys push new d t enters is =
     written-holder empty keys push new d enters
     ∙ ap (λ (r : Result Table WriteError). then_table r (written_in keys push new)) is
 
+-- one without keys that does not push puts the value in the place of the other
+pub written-whole : (empty : Bool) (keys : List (Option Key)) (push : Bool) (new d : Data)
+    → empty ≡ (length keys == 0) → empty ≡ true → push ≡ false → written keys push new d ≡ Ok new
+written-whole empty [] false new d is none whole = refl
+written-whole empty [] true new d is none whole = absurd (cc)
+written-whole empty (key ∷ keys) push new d is none whole =
+    let some : (length (key ∷ keys) == 0) ≡ false = grind (arith, nat_tests) in
+    absurd (false≢true (sym some ∙ sym is ∙ none))
+
 pub written-refused : (empty : Bool) (keys : List (Option Key)) (push : Bool) (new d : Data) (e : WriteError)
     → Enters empty keys push → holder_of d ≡ Err e →
     written keys push new d ≡ Err e
@@ -213,96 +236,167 @@ written-refused empty keys push new d e enters is =
     written-holder empty keys push new d enters
     ∙ ap (λ (r : Result Table WriteError). then_table r (written_in keys push new)) is
 
--- ---- results that are passed on
-pub at_exit : {X : Type 0} (r : Result X WriteError) (e : WriteError) (asked : Result Data WriteError)
-    → IsErrAnd r (λ y. y ≡ e) → IsCause asked e → IfErr r (IsCause asked)
-at_exit (Ok x) e asked is cause = tt
-at_exit (Err y) e asked is cause = subst (IsCause asked) (sym is) cause
+-- ---- why a write is refused
+cause_of-then : (r : Result Data WriteError) (f : Data → Data) → cause_of (then_data r f) ≡ cause_of r
+cause_of-then (Ok d) f = refl
+cause_of-then (Err e) f = refl
 
-pub on_err : {X : Type 0} (r : Result X WriteError) (a b : Table) → a ≡ b → OnErr r (a ≡ b)
-on_err (Ok x) a b same = tt
-on_err (Err e) a b same = same
-
-pub err-along : {X : Type 0} (r : Result X WriteError) (a b t : Table) → OnErr r (a ≡ b) → b ≡ t → OnErr r (a ≡ t)
-err-along (Ok x) a b t h same = tt
-err-along (Err e) a b t h same = h ∙ same
-
-pub data-along : {X : Type 0} (r : Result X WriteError) (v w : Value) → OnErr r (v ≡ w)
-    → OnErr r (data_of v ≡ data_of w)
-data-along (Ok x) v w h = tt
-data-along (Err e) v w h = ap data_of h
-
-pub ok-along : {X : Type 0} (r : Result X WriteError) (asked : Result Data WriteError) (a b : Table) → OnOk r (a ≡ b)
-    → asked ≡ Ok (data_of_table b) → OnOk r (asked ≡ Ok (data_of_table a))
-ok-along (Ok x) asked a b h is =
-    is ∙ ap (λ (t : Table). let r : Result Data WriteError = Ok (data_of_table t) in r) (sym h)
-ok-along (Err e) asked a b h is = tt
-
--- ---- a write under a first key: what is asked of the value there
+-- what weighs beside the value under a first key
 pub record IsBehind (beside inner : ℕ) (keys : List (Option Key)) (key : Key) (rest : List (Option Key)) (t : Table)
     (child : Data) : Type 0 where
   pub room : inner ≡ min (beside + pairs_weight (put t.pairs key null)) 18446744073709551615
   pub first : keys ≡ Some key ∷ rest
   pub entry : entry_at t key ≡ child
 
-module _ (beside inner : ℕ) (keys : List (Option Key)) (key : Key) (rest : List (Option Key)) (push : Bool) (new : Data)
-    (t : Table) (child : Data) (is : IsBehind beside inner keys key rest t child) where
-  pub asked : within beside (written_in keys push new t) ≡ then_data (within inner (written rest push new child))
-      (λ d. data_of_table (table_set t key d))
-  asked =
-      ap (λ (ks : List (Option Key)). within beside (written_in ks push new t)) is.first
-      ∙ within_set beside t key (written rest push new (entry_at t key))
-      ∙ ap (λ (r : Result Data WriteError). then_data r (λ d. data_of_table (table_set t key d)))
-      (sym (within_min (beside + pairs_weight (put t.pairs key null)) (written rest push new (entry_at t key)))
-      ∙ ap (λ (n : ℕ). within n (written rest push new (entry_at t key))) (sym is.room)
-      ∙ ap (λ (d : Data). within inner (written rest push new d)) is.entry)
+-- a write is refused as that of the value under the first key
+pub cause-behind : (beside inner : ℕ) (keys : List (Option Key)) (key : Key) (rest : List (Option Key)) (push : Bool)
+    (new : Data) (t : Table) (child : Data) → IsBehind beside inner keys key rest t child
+    → cause_of (within inner (written rest push new child)) ≡ cause_of (within beside (written_in keys push new t))
+cause-behind beside inner keys key rest push new t child is =
+    let set : Data → Data = λ d. data_of_table (table_set t key d) in
+    let asked : within beside (written_in keys push new t) ≡ then_data (within inner (written rest push new child)) set =
+    ap (λ (ks : List (Option Key)). within beside (written_in ks push new t)) is.first
+    ∙ within_set beside t key (written rest push new (entry_at t key))
+    ∙ ap (λ (r : Result Data WriteError). then_data r set)
+    (sym (within_min (beside + pairs_weight (put t.pairs key null)) (written rest push new (entry_at t key)))
+    ∙ ap (λ (n : ℕ). within n (written rest push new (entry_at t key))) (sym is.room)
+    ∙ ap (λ (d : Data). within inner (written rest push new d)) is.entry) in
+    sym (ap cause_of asked ∙ cause_of-then (within inner (written rest push new child)) set)
 
-  pub behind-done : (d : Data) → within inner (written rest push new child) ≡ Ok d
-      → within beside (written_in keys push new t) ≡ Ok (data_of_table (table_set t key d))
-  behind-done d h = asked ∙ ap (λ (r : Result Data WriteError). then_data r (λ x. data_of_table (table_set t key x))) h
+-- whether a value is too heavy, what weighs beside it counted up to a bound
+heavy-by : (b : Bool) (d : Data) → cause_of (cond b (Ok d) (Err TooHeavy)) ≡ (if b then None else Some TooHeavy)
+heavy-by true d = refl
+heavy-by false d = refl
 
-  pub behind-cause : (e : WriteError) → IsCause (within inner (written rest push new child)) e
-      → IsCause (within beside (written_in keys push new t)) e
-  behind-cause e cause = elim cause [
-    | inl memory ↦ inl memory
-    | inr h ↦ inr (asked ∙ ap (λ (r : Result Data WriteError). then_data r (λ x. data_of_table (table_set t key x))) h)
-  ]
+pub is_light : (beside : ℕ) (d : Data) → beside + weight_of d ≤ weight_limit → None ≡ cause_of (within beside (Ok d))
+is_light beside d h =
+    let test : nat_le (beside + weight_of d) weight_limit ≡ true = grind (arith, nat_tests) in
+    sym (heavy-by (nat_le (beside + weight_of d) weight_limit) d
+    ∙ ap (λ (b : Bool). let o : Option WriteError = if b then None else Some TooHeavy in o) test)
 
-  pub behind-light : (d : Data) → within inner (written rest push new child) ≡ Ok d
-      → pairs_weight (put t.pairs key d) ≤ weight_limit
-  behind-light d h =
-      let enough : inner + weight_of d ≤ weight_limit = light_enough inner (written rest push new child) d h in
-      let room : inner ≡ min (beside + pairs_weight (put t.pairs key null)) 18446744073709551615 = is.room in
-      omega (arith, weight-put t.pairs key d)
+pub is_heavy : (beside : ℕ) (d : Data) → weight_limit < beside + weight_of d
+    → Some TooHeavy ≡ cause_of (within beside (Ok d))
+is_heavy beside d h =
+    let test : nat_le (beside + weight_of d) weight_limit ≡ false = grind (arith, nat_tests) in
+    sym (heavy-by (nat_le (beside + weight_of d) weight_limit) d
+    ∙ ap (λ (b : Bool). let o : Option WriteError = if b then None else Some TooHeavy in o) test)
 
-  pub behind-refused : {X : Type 0} (r : Result X WriteError)
-      → IfErr r (IsCause (within inner (written rest push new child)))
-      → IfErr r (IsCause (within beside (written_in keys push new t)))
-  behind-refused (Ok x) h = tt
-  behind-refused (Err e) h = behind-cause e h
+-- what is answered of a write of a value of this weight before it is made
+pub answered : (keys : List (Option Key)) (push : Bool) (new old : Data) (weight : ℕ) (o : Option WriteError)
+    → ((d : Data) → min (weight_of d) 18446744073709551615 ≡ weight → o ≡ cause_of (within 0 (written keys push d old)))
+    → min (weight_of new) 18446744073709551615 ≡ weight → o ≡ cause_of (write_result keys push new old)
+answered keys push new old weight o answer weighs =
+    answer new weighs ∙ ap cause_of (within_nothing (written keys push new old))
+
+pub none-ok : (r : Result Data WriteError) → None ≡ cause_of r → IsOk r
+none-ok (Ok d) h = refl
+none-ok (Err e) h = cc
+
+-- where nothing is answered, no cause is left
+pub never : {A : Type 0} (r : Result Data WriteError) → IsOk r → (why : WriteError) → r ≡ Err why → A
+never (Ok d) ok why h = absurd (cc)
+never (Err e) ok why h = absurd (false≢true ok)
+
+pub some-is : (r : Result Data WriteError) (e : WriteError) → Some e ≡ cause_of r → r ≡ Err e
+some-is (Ok d) e h = cc
+some-is (Err why) e h = ap Err (sym (same_Some e why h))
+
+pub same-cause : {X : Type 0} (r : Result Data WriteError) (e : WriteError) → Some e ≡ cause_of r → (why : WriteError)
+    → r ≡ Err why → ◌≡◌ {A = Result X WriteError} (Err e) (Err why)
+same-cause (Ok d) e h why g = absurd (cc)
+same-cause (Err x) e h why g = let same : x ≡ why = cc in ap Err (same_Some e x h ∙ same)
+
+-- ---- results that are passed on
+pub on_err : {X E : Type 0} (r : Result X E) (a b : Table) → a ≡ b → OnErr r (a ≡ b)
+on_err (Ok x) a b same = tt
+on_err (Err e) a b same = same
+
+pub err-along : {X E : Type 0} (r : Result X E) (a b t : Table) → OnErr r (a ≡ b) → b ≡ t → OnErr r (a ≡ t)
+err-along (Ok x) a b t h same = tt
+err-along (Err e) a b t h same = h ∙ same
+
+pub data-along : {X E : Type 0} (r : Result X E) (v w : Value) → OnErr r (v ≡ w) → OnErr r (data_of v ≡ data_of w)
+data-along (Ok x) v w h = tt
+data-along (Err e) v w h = ap data_of h
+
+pub ok-along : {X E : Type 0} (r : Result X E) (asked : Result Data WriteError) (a b : Table) → OnOk r (a ≡ b)
+    → asked ≡ Ok (data_of_table b) → OnOk r (asked ≡ Ok (data_of_table a))
+ok-along (Ok x) asked a b h is =
+    is ∙ ap (λ (t : Table). let r : Result Data WriteError = Ok (data_of_table t) in r) (sym h)
+ok-along (Err e) asked a b h is = tt
+
+-- ---- a write under a first key that is not refused: what is asked of the value there
+pub record IsUnder (keys : List (Option Key)) (key : Key) (rest : List (Option Key)) (push : Bool) (new : Data)
+    (t : Table) (child : Data) : Type 0 where
+  pub first : keys ≡ Some key ∷ rest
+  pub entry : entry_at t key ≡ child
+  pub asked : IsOk (light (written_in keys push new t))
+
+module _ {keys : List (Option Key)} {key : Key} {rest : List (Option Key)} {push : Bool} {new : Data} {t : Table}
+    {child : Data} (is : IsUnder keys key rest push new t child) where
+  abbrev with_child : Result Data WriteError → Result Data WriteError
+  with_child r = light (then_data r (λ d. data_of_table (table_set t key d)))
+
+  whole : light (written_in keys push new t) ≡ with_child (written rest push new child)
+  whole =
+      ap (λ (ks : List (Option Key)). light (written_in ks push new t)) is.first
+      ∙ ap (λ (d : Data). with_child (written rest push new d)) is.entry
+
+  set_light : (d : Data) → IsOk (with_child (Ok d)) → pairs_weight (put t.pairs key d) ≤ weight_limit
+  set_light d h = light_enough (pairs_weight (put t.pairs key d)) (data_of_table (table_set t key d)) h
+
+  child_light : (r : Result Data WriteError) → IsOk (with_child r) → IsOk (light r)
+  child_light (Ok d) h =
+      let all : pairs_weight (put t.pairs key d) ≤ weight_limit = set_light d h in
+      let weighs : pairs_weight (put t.pairs key d) ≡ pairs_weight (put t.pairs key null) + weight_of d =
+      weight-put t.pairs key d in
+      let test : nat_le (weight_of d) weight_limit ≡ true = grind (arith, nat_tests) in
+      ap (λ (b : Bool). let r : Result Data WriteError = cond b (Ok d) (Err TooHeavy) in is_ok r) test
+  child_light (Err e) h = h
+
+  asked_whole : IsOk (with_child (written rest push new child))
+  asked_whole = subst (λ (r : Result Data WriteError). IsOk r) whole is.asked
+
+  pub under-asked : IsOk (light (written rest push new child))
+  under-asked = child_light (written rest push new child) asked_whole
+
+  module _ (d : Data) (done : light (written rest push new child) ≡ Ok d) where
+    asked_set : IsOk (with_child (Ok d))
+    asked_set =
+        subst (λ (r : Result Data WriteError). IsOk (with_child r)) (light_was (written rest push new child) d done)
+        asked_whole
+
+    pub under-light : pairs_weight (put t.pairs key d) ≤ weight_limit
+    under-light = set_light d asked_set
+
+    pub under-done : light (written_in keys push new t) ≡ Ok (data_of_table (table_set t key d))
+    under-done =
+        whole
+        ∙ ap with_child (light_was (written rest push new child) d done)
+        ∙ light_is (data_of_table (table_set t key d)) asked_set
 
   module _ (table : IsTable t) (found : value_at t key ≡ Some child) where
-    pub behind-back : {X : Type 0} (r : Result X WriteError) (d : Data)
-        → OnOk r (within inner (written rest push new child) ≡ Ok d) → OnErr r (d ≡ child) →
+    pub under-back : {X E : Type 0} (r : Result X E) (d : Data)
+        → OnOk r (light (written rest push new child) ≡ Ok d) → OnErr r (d ≡ child) →
         pairs_weight (swapped (swapped t.pairs key null) key d) ≤ weight_limit
-    behind-back (Ok x) d done err =
+    under-back (Ok x) d done err =
         let same : swapped (swapped t.pairs key null) key d ≡ put t.pairs key d = swapped-swapped t.pairs key null d
         ∙ sym (put-present t.pairs key d child found) in
-        omega (arith, ap pairs_weight same, behind-light d done)
-    behind-back (Err e) d done err =
+        omega (arith, ap pairs_weight same, under-light d done)
+    under-back (Err e) d done err =
         let same : swapped (swapped t.pairs key null) key d ≡ t.pairs =
         swapped-swapped t.pairs key null d ∙ ap (swapped t.pairs key) err ∙ swapped-same t.pairs key child found in
         omega (arith, ap pairs_weight same, table.light)
 
-    pub behind-ok : {X : Type 0} (r : Result X WriteError) (d : Data) (after : Table) → after ≡ table_exchange t key d
-        → OnOk r (within inner (written rest push new child) ≡ Ok d) →
-        OnOk r (within beside (written_in keys push new t) ≡ Ok (data_of_table after))
-    behind-ok (Ok x) d after h done =
-        behind-done d done ∙ ap (λ (u : Table). let r : Result Data WriteError = Ok (data_of_table u) in r)
+    pub under-ok : {X E : Type 0} (r : Result X E) (d : Data) (after : Table) → after ≡ table_exchange t key d
+        → OnOk r (light (written rest push new child) ≡ Ok d) →
+        OnOk r (light (written_in keys push new t) ≡ Ok (data_of_table after))
+    under-ok (Ok x) d after h done =
+        under-done d done ∙ ap (λ (u : Table). let r : Result Data WriteError = Ok (data_of_table u) in r)
         (set-present t key d child table found ∙ sym h)
-    behind-ok (Err e) d after h done = tt
+    under-ok (Err e) d after h done = tt
 
-    pub behind-err : {X : Type 0} (r : Result X WriteError) (d : Data) (after : Table) → after ≡ table_exchange t key d
+    pub under-err : {X E : Type 0} (r : Result X E) (d : Data) (after : Table) → after ≡ table_exchange t key d
         → OnErr r (d ≡ child) → OnErr r (after ≡ t)
-    behind-err (Ok x) d after h err = tt
-    behind-err (Err e) d after h err = h ∙ ap (table_exchange t key) err ∙ exchange-same t key child found
+    under-err (Ok x) d after h err = tt
+    under-err (Err e) d after h err = h ∙ ap (table_exchange t key) err ∙ exchange-same t key child found

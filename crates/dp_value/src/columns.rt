@@ -2,7 +2,7 @@
 
 ghost use Rattle.std.specs.Prelude.{◌≡◌, ◌==◌, ◌+◌, ◌<◌, ◌≤◌, ◌↔◌, ◌⊎◌, [], min, length, map, slice_get};
 ghost use Rattle.std.specs.Prelude.{is_some, option_map, IfOk, OnOk, OnErr, IfErr, IsErrOf};
-ghost use Rattle.dp_value.specs.Data.{pairs_weight};
+ghost use Rattle.dp_value.specs.Data.{null, pairs_weight};
 ghost use Rattle.dp_value.specs.Table.{empty, keys_of, values_of, value_at, put, table_set, table_remove};
 ghost use Rattle.dp_value.specs.Table.{table_exchange, swapped, weight_limit, IsTable, raised as raised_by};
 ghost use Rattle.dp_value.specs.Value.{data_of};
@@ -93,22 +93,31 @@ impl Columns {
         self.weight
     }
 
+    /// The value under a key, and what weighs beside it, the key counted; or the largest `u64` where that is more.
+    pub(crate) fn entry(&self, key: &Key) -> (Option<&Value>, u64)
+        ensures value { option_map (λ v. data_of v.now) result.0 ≡ value_at self.now key.now }
+        ensures beside { result.1 ≡ min (pairs_weight (put self.now.pairs key.now null)) u64.MAX }
+    {
+        match place(&self.keys, self.gone, key) {
+            Some(at) => {
+                let value = &self.values[self.gone + at];
+                let of_value = weight(value);
+                (Some(value), self.weight - of_value)
+            }
+            None => {
+                let of_key = key.weight();
+                (None, self.weight.saturating_add(1).saturating_add(of_key))
+            }
+        }
+    }
+
     /// What the entries would weigh with this value under this key, or the largest `u64` where it is more.
     pub(crate) fn weight_with(&self, key: &Key, value: &Value) -> u64
         ensures { result ≡ min (pairs_weight (put self.now.pairs key.now (data_of value.now))) u64.MAX }
     {
         let added = weight(value);
-        match place(&self.keys, self.gone, key) {
-            Some(at) => {
-                let old = weight(&self.values[self.gone + at]);
-                (self.weight - old).saturating_add(added)
-            }
-            None => self
-                .weight
-                .saturating_add(1)
-                .saturating_add(key.weight())
-                .saturating_add(added),
-        }
+        let (_, others) = self.entry(key);
+        others.saturating_add(added)
     }
 
     /// Puts a value under a key. A present key keeps its place, a new one goes last.
@@ -162,7 +171,7 @@ impl Columns {
 
     /// Removes a key and its value, and says whether the key was there. The entries close up, and the
     /// largest integer key ever used stays. Takes no memory.
-    pub(crate) fn remove(&mut self, key: &Key) -> bool
+    pub fn remove(&mut self, key: &Key) -> bool
         ensures found { result ≡ is_some (value_at self.old key.now) }
         ensures removed { self.new ≡ table_remove self.old key.now }
     {

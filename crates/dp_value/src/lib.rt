@@ -1,6 +1,7 @@
 //! The values of the language and the calls on them: byte strings, lists that own their items, keys, ordered arrays.
 #![tactic(auto)]
 
+mod appends;
 mod bytes;
 mod columns;
 mod conditions;
@@ -13,7 +14,9 @@ mod key;
 mod key_column;
 mod keys_of;
 mod names;
+mod owners;
 mod quotes;
+mod refusals;
 mod removals;
 mod rows;
 mod text;
@@ -21,6 +24,7 @@ mod value;
 mod weights;
 mod writes;
 
+pub use appends::append_at;
 pub use bytes::Bytes;
 pub use conditions::truthy;
 pub use decimals::decimal;
@@ -33,7 +37,7 @@ pub use names::{are_alike, without_slash};
 pub use quotes::put_in_quotes;
 pub use removals::remove_at;
 pub use text::Text;
-pub use value::{PhpArray, Value, WEIGHT_LIMIT};
+pub use value::{Columns, PhpArray, Value, WEIGHT_LIMIT};
 pub use weights::weight;
 pub use writes::write_at;
 

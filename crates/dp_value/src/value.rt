@@ -1,8 +1,8 @@
 //! The values of the language.
 
-ghost use Rattle.std.specs.Prelude.{◌≡◌, ◌==◌, ◌<◌, ◌↔◌, ◌⊎◌, length, map, slice_get, is_some, option_map};
+ghost use Rattle.std.specs.Prelude.{◌≡◌, ◌==◌, ◌<◌, ◌↔◌, ◌⊎◌, length, map, min, slice_get, is_some, option_map};
 ghost use Rattle.std.specs.Prelude.{None, Some, Ok, false, OnOk, OnErr, IfOk, IfErr, IsErrOf};
-ghost use Rattle.dp_value.specs.Data.{pairs_weight};
+ghost use Rattle.dp_value.specs.Data.{null, pairs_weight};
 ghost use Rattle.dp_value.specs.Table.{empty, keys_of, values_of, value_at, put, table_set, table_push, table_remove};
 ghost use Rattle.dp_value.specs.Table.{weight_limit, largest_int, IsTable};
 
@@ -63,7 +63,7 @@ impl Model for PhpArray {
 /// key of the array, and its value is null.
 #[cycle(value)]
 #[derive(Debug, Drop)]
-pub(crate) struct Columns {
+pub struct Columns {
     pub(crate) keys: KeyColumn,
     pub(crate) values: Vec<Value>,
     pub(crate) gone: usize,
@@ -168,6 +168,17 @@ impl PhpArray {
         }
     }
 
+    /// The value under a key, and what weighs beside it, the key counted; or the largest `u64` where that is more.
+    pub(crate) fn entry(&self, key: &Key) -> (Option<&Value>, u64)
+        ensures value { option_map (λ v. data_of v.now) result.0 ≡ value_at self.now key.now }
+        ensures beside { result.1 ≡ min (pairs_weight (put self.now.pairs key.now null)) u64.MAX }
+    {
+        match &self.columns {
+            None => (None, key.weight().saturating_add(1)),
+            Some(columns) => columns.entry(key),
+        }
+    }
+
     /// The largest integer key ever used, if any.
     pub(crate) fn largest(&self) -> Option<i64>
         ensures { result ≡ self.now.largest }
@@ -239,9 +250,6 @@ impl PhpArray {
         let Some(_) = self.get(key) else {
             return Ok(false);
         };
-        match &mut self.columns {
-            None => Ok(false),
-            Some(columns) => Ok(Rc::make_mut(columns)?.remove(key)),
-        }
+        Ok(self.own()?.remove(key))
     }
 }

@@ -1,14 +1,16 @@
 //! Entries written, however deep.
 
-ghost use Rattle.std.specs.Prelude.{◌≡◌, ◌≤◌, ◌+◌, min, Ok, IfOk, IfErr, OnOk, OnErr};
-ghost use Rattle.dp_value.specs.Data.{Data, data_of_table, null, pairs_weight};
+ghost use Rattle.std.specs.Prelude.{◌≡◌, ◌≤◌, Ok, Err, IfOk, IfErr, IsOk, OnOk, OnErr};
+ghost use Rattle.dp_value.specs.declared.errors.WriteError.{WriteError as AnyCause};
+ghost use Rattle.dp_value.specs.Data.{data_of_table, pairs_weight};
 ghost use Rattle.dp_value.specs.Table.{empty, put, table_set, weight_limit};
 ghost use Rattle.dp_value.specs.Value.{data_of};
-ghost use Rattle.dp_value.specs.Entry.{pushed, within, written, write_result, IsCause};
-ghost use Rattle.dp_value.specs.inner.Writes.{put_under, written_in};
+ghost use Rattle.dp_value.specs.Entry.{light, pushed, write_result, IsCause};
+ghost use Rattle.dp_value.specs.inner.Writes.{written_in};
 
+use crate::refusals::{next_key, refusal};
 use crate::value::Columns;
-use crate::{Key, PhpArray, Value, WEIGHT_LIMIT, WriteError, weight};
+use crate::{Key, Memory, PhpArray, Value, WriteError, weight};
 use std::alloc::Global;
 use std::rc::Rc;
 
@@ -17,8 +19,8 @@ use std::rc::Rc;
 /// way become arrays. The work grows with the number of keys, and not with the size of the arrays.
 ///
 /// The causes are tried key by key: `Scalar` and `Unsupported` by what holds the entry, then `BadKey`; behind the last
-/// key `NextIndex`, then `TooHeavy` where the value, or an array on the way, would weigh more than `WEIGHT_LIMIT`.
-/// After a refusal the value is as before. Source: the PHP manual, "Arrays".
+/// key `NextIndex`, then `TooHeavy` where the value, or an array on the way, would weigh more than `WEIGHT_LIMIT`; all
+/// also where there is no memory. After a refusal the value is as before. Source: the PHP manual, "Arrays".
 pub fn write_at(
     alloc: Global,
     value: &mut Value,
@@ -28,43 +30,51 @@ pub fn write_at(
 ) -> Result<(), WriteError>
     ensures ok { OnOk result (write_result keys.now push (data_of new) (data_of value.old) ≡ Ok (data_of value.new)) }
     ensures refused { IfErr result (λ e. IsCause (write_result keys.now push (data_of new) (data_of value.old)) e) }
+    ensures sure { (why : AnyCause) → write_result keys.now push (data_of new) (data_of value.old) ≡ Err why
+        → result ≡ Err why }
     ensures err { OnErr result (value.new ≡ value.old) }
 {
-    write(alloc, value, keys, push, new, 0)
+    match refusal(alloc, value, keys, push, weight(&new), 0) {
+        Some(why) => {
+            drop(new);
+            Err(why)
+        }
+        None => match write(alloc, value, keys, push, new) {
+            Ok(()) => Ok(()),
+            Err(_) => Err(WriteError::Memory),
+        },
+    }
 }
 
-/// Writes one entry of a value beside which so much else weighs.
+/// Writes one entry where that is not refused.
 #[cycle(writing)]
-fn write(
+pub(crate) fn write(
     alloc: Global,
     value: &mut Value,
     keys: &[Option<Key>],
     push: bool,
     new: Value,
-    beside: u64,
-) -> Result<(), WriteError>
-    ensures ok { OnOk result (within beside (written keys.now push (data_of new) (data_of value.old)) ≡ Ok
-        (data_of value.new)) }
-    ensures refused { IfErr result (λ e. IsCause (within beside
-        (written keys.now push (data_of new) (data_of value.old))) e) }
+) -> Result<(), Memory>
+    requires { IsOk (write_result keys.now push (data_of new) (data_of value.old)) }
+    ensures ok { OnOk result (write_result keys.now push (data_of new) (data_of value.old) ≡ Ok (data_of value.new)) }
     ensures err { OnErr result (value.new ≡ value.old) }
 {
     if keys.is_empty() && !push {
-        return replace(value, new, beside);
+        replace(value, new);
+        return Ok(());
     }
     match value {
-        Value::Array(array) => write_into(alloc, array, keys, push, new, beside),
+        Value::Array(array) => write_into(alloc, array, keys, push, new),
         Value::Null | Value::Bool(false) => {
-            let array = write_new(alloc, keys, push, new, beside)?;
+            let array = write_new(alloc, keys, push, new)?;
             *value = Value::Array(array);
             Ok(())
         }
-        Value::Bool(true) | Value::Int(_) => Err(WriteError::Scalar),
-        Value::Text(_) => Err(WriteError::Unsupported),
+        Value::Bool(true) | Value::Int(_) | Value::Text(_) => Err(Memory),
     }
 }
 
-/// Writes one entry of an array. What it keeps is copied first where that has other owners.
+/// Writes one entry of an array. What it keeps is copied first where it has other owners.
 #[cycle(writing)]
 fn write_into(
     alloc: Global,
@@ -72,17 +82,15 @@ fn write_into(
     keys: &[Option<Key>],
     push: bool,
     new: Value,
-    beside: u64,
-) -> Result<(), WriteError>
-    ensures ok { OnOk result (within beside (written_in keys.now push (data_of new) array.old) ≡ Ok
-        (data_of_table array.new)) }
-    ensures refused { IfErr result (λ e. IsCause (within beside (written_in keys.now push (data_of new) array.old)) e) }
+) -> Result<(), Memory>
+    requires { IsOk (light (written_in keys.now push (data_of new) array.old)) }
+    ensures ok { OnOk result (light (written_in keys.now push (data_of new) array.old) ≡ Ok (data_of_table array.new)) }
     ensures err { OnErr result (array.new ≡ array.old) }
 {
     if let Some(columns) = &mut array.columns {
-        return write_row(alloc, Rc::make_mut(columns)?, keys, push, new, beside);
+        return write_row(alloc, Rc::make_mut(columns)?, keys, push, new);
     }
-    *array = write_new(alloc, keys, push, new, beside)?;
+    *array = write_new(alloc, keys, push, new)?;
     Ok(())
 }
 
@@ -93,14 +101,12 @@ fn write_new(
     keys: &[Option<Key>],
     push: bool,
     new: Value,
-    beside: u64,
-) -> Result<PhpArray, WriteError>
-    ensures ok { IfOk result (λ array. within beside (written_in keys.now push (data_of new) empty) ≡ Ok
-        (data_of_table array)) }
-    ensures refused { IfErr result (λ e. IsCause (within beside (written_in keys.now push (data_of new) empty)) e) }
+) -> Result<PhpArray, Memory>
+    requires { IsOk (light (written_in keys.now push (data_of new) empty)) }
+    ensures { IfOk result (λ array. light (written_in keys.now push (data_of new) empty) ≡ Ok (data_of_table array)) }
 {
     let mut columns = Columns::new(alloc);
-    write_row(alloc, &mut columns, keys, push, new, beside)?;
+    write_row(alloc, &mut columns, keys, push, new)?;
     array_of(alloc, columns)
 }
 
@@ -112,103 +118,66 @@ fn write_row(
     keys: &[Option<Key>],
     push: bool,
     new: Value,
-    beside: u64,
-) -> Result<(), WriteError>
-    ensures ok { OnOk result (within beside (written_in keys.now push (data_of new) columns.old) ≡ Ok
+) -> Result<(), Memory>
+    requires { IsOk (light (written_in keys.now push (data_of new) columns.old)) }
+    ensures ok { OnOk result (light (written_in keys.now push (data_of new) columns.old) ≡ Ok
         (data_of_table columns.new)) }
-    ensures refused { IfErr result (λ e. IsCause (within beside
-        (written_in keys.now push (data_of new) columns.old)) e) }
     ensures err { OnErr result (columns.new ≡ columns.old) }
 {
     let Some((key, rest)) = keys.split_first() else {
-        return push_into(columns, new, beside);
+        return push_into(columns, new);
     };
     let Some(key) = key else {
-        return Err(WriteError::BadKey);
+        return Err(Memory);
     };
-    let beside_child = beside_entry(columns, key, beside);
     let Some(mut child) = columns.exchange(key, Value::Null) else {
         let mut child = Value::Null;
-        write(alloc, &mut child, rest, push, new, beside_child)?;
+        write(alloc, &mut child, rest, push, new)?;
         return set_entry(columns, key.try_clone()?, child);
     };
-    let result = write(alloc, &mut child, rest, push, new, beside_child);
+    let result = write(alloc, &mut child, rest, push, new);
     let _ = columns.exchange(key, child);
     result
 }
 
 /// The array that keeps these columns.
-fn array_of(alloc: Global, columns: Columns) -> Result<PhpArray, WriteError>
-    ensures ok { IfOk result (λ array. array ≡ columns) }
-    ensures only { IfErr result (λ e. e ≡ WriteError.Memory) }
+fn array_of(alloc: Global, columns: Columns) -> Result<PhpArray, Memory>
+    ensures { IfOk result (λ array. array ≡ columns) }
 {
     match Rc::new(alloc, columns) {
         Ok(columns) => Ok(PhpArray {
             alloc,
             columns: Some(columns),
         }),
-        Err(_) => Err(WriteError::Memory),
+        Err(_) => Err(Memory),
     }
 }
 
-/// What weighs beside the value under a key, or the largest `u64` where it is more.
-fn beside_entry(columns: &Columns, key: &Key, beside: u64) -> u64
-    ensures { result ≡ min (beside + pairs_weight (put columns.now.pairs key.now null)) u64.MAX }
+/// Puts a value in the place of another.
+fn replace(value: &mut Value, new: Value)
+    ensures { value.new ≡ new }
 {
-    columns
-        .weight_with(key, &Value::Null)
-        .saturating_add(beside)
-}
-
-/// Puts a value in the place of another, where it is not too heavy.
-fn replace(value: &mut Value, new: Value, beside: u64) -> Result<(), WriteError>
-    ensures ok { OnOk result (within beside (Ok (data_of new)) ≡ Ok (data_of value.new)) }
-    ensures refused { IfErr result (λ e. IsCause (within beside (Ok (data_of new))) e) }
-    ensures err { OnErr result (value.new ≡ value.old) }
-{
-    if weight(&new).saturating_add(beside) > WEIGHT_LIMIT {
-        return Err(WriteError::TooHeavy);
-    }
     *value = new;
-    Ok(())
 }
 
-/// Pushes a value into what an array keeps beside which so much else weighs.
-fn push_into(columns: &mut Columns, new: Value, beside: u64) -> Result<(), WriteError>
-    ensures ok { OnOk result (within beside (pushed (data_of new) columns.old) ≡ Ok (data_of_table columns.new)) }
-    ensures refused { IfErr result (λ e. IsCause (within beside (pushed (data_of new) columns.old)) e) }
+/// Pushes a value into what an array keeps.
+fn push_into(columns: &mut Columns, new: Value) -> Result<(), Memory>
+    requires { IsOk (light (pushed (data_of new) columns.old)) }
+    ensures ok { OnOk result (light (pushed (data_of new) columns.old) ≡ Ok (data_of_table columns.new)) }
     ensures err { OnErr result (columns.new ≡ columns.old) }
 {
-    let Some(key) = next_key(columns) else {
-        return Err(WriteError::NextIndex);
+    let Some(key) = next_key(columns.largest()) else {
+        return Err(Memory);
     };
-    let weight = columns.weight_with(&key, &new).saturating_add(beside);
-    if weight > WEIGHT_LIMIT {
-        return Err(WriteError::TooHeavy);
-    }
     set_entry(columns, key, new)
 }
 
-/// The key under which a pushed value goes.
-fn next_key(columns: &Columns) -> Option<Key>
-    ensures { (d : Data) → pushed d columns.now ≡ put_under result d columns.now }
-{
-    match columns.largest() {
-        None => Some(Key::Int(0)),
-        Some(i64::MAX) => None,
-        Some(largest) => Some(Key::Int(largest + 1)),
-    }
-}
-
 /// Puts a value under a key, where it is not too heavy.
-fn set_entry(columns: &mut Columns, key: Key, value: Value) -> Result<(), WriteError>
+fn set_entry(columns: &mut Columns, key: Key, value: Value) -> Result<(), Memory>
     requires { pairs_weight (put columns.old.pairs key (data_of value)) ≤ weight_limit }
     ensures ok { OnOk result (columns.new ≡ table_set columns.old key (data_of value)) }
-    ensures only { IfErr result (λ e. e ≡ WriteError.Memory) }
     ensures err { OnErr result (columns.new ≡ columns.old) }
 {
-    match columns.set(key, value) {
-        Ok(()) => Ok(()),
-        Err(_) => Err(WriteError::Memory),
-    }
+    let weight = columns.weight_with(&key, &value);
+    columns.insert(key, value, weight)
 }

@@ -22,3 +22,8 @@ put_under (Some key) d t = Ok (data_of_table (table_set t key d))
 -- pairs that would be too heavy with a value under a key
 abbrev pub IsTooMuch : List (Key × Data) → Key → Data → Type 0
 IsTooMuch ps key d = weight_limit < pairs_weight (put ps key d)
+
+-- why a write is refused, if it is
+abbrev pub cause_of : Result Data WriteError → Option WriteError
+cause_of (Ok d) = None
+cause_of (Err e) = Some e

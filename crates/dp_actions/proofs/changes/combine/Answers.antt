@@ -7,5 +7,5 @@ returns-in_err-new c = exits _ _ c.from_residual.ensures.1 (breaks_off _ (c.in_e
 pub returns : goal.returns
 returns c = goes_on _ (c.in_ok-new.ensures) c.assign_place.ensures
 
-pub returns-then-is_growth : goal.returns-then-is_growth
-returns-then-is_growth c = let h = c.is_growth.ensures c.if-is_growth.true in rw (h.0, h.1) c.grown.ensures
+pub returns-then-is_concat : goal.returns-then-is_concat
+returns-then-is_concat c = rw (c.is_concat.ensures c.if-is_concat.true) c.grown.ensures

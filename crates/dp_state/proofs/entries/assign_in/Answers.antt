@@ -1,9 +1,11 @@
-use Rattle.std.proofs.Common.{ap, ◌∙◌}
+use Rattle.std.proofs.Common.{Err, Result, ap, sym, ◌∙◌}
 use Rattle.dp_value.specs.declared.value.Value.TheVariants.{Null}
 use Rattle.dp_value.specs.Data.{Data}
 use Rattle.dp_value.specs.Entry.{write_result}
 use Rattle.dp_value.specs.Value.{data_of}
+use Rattle.dp_state.specs.declared.state.Fault.{Fault}
 use Rattle.dp_state.specs.inner.Parts.{then_variables}
+use Rattle.dp_state.proofs.Refusals.{not_refused, write-sure}
 use Rattle.dp_state.proofs.Slots.{data_there, then_put_back, put_same}
 use Rattle.dp_state.proofs.entries.assign_in.Goals as goal
 
@@ -17,8 +19,26 @@ returns-in-Ok-clause-ok c =
     (write_result c.args.keys.now c.args.push (data_of c.args.value) (data_of c.in-Some.held))
     c.in-Some.ensures.exchanged c.exchange-2.ensures.exchanged c.in-Ok.ensures.ok
 
+pub returns-in-Ok-clause-sure : goal.returns-in-Ok-clause-sure
+returns-in-Ok-clause-sure c = λ kind refused.
+    absurd (not_refused c.args.name.now c.args.vars.now
+    (write_result c.args.keys.now c.args.push (data_of c.args.value) (data_of c.in-Some.held))
+    (data_of c.write_at-done.new.value) kind c.in-Ok.ensures.ok
+    (ap (λ (d : Data). then_variables c.args.name.now c.args.vars.now
+    (write_result c.args.keys.now c.args.push (data_of c.args.value) d))
+    (sym (data_there c.args.name.now c.args.vars.now c.in-Some.held c.in-Some.ensures.value)) ∙ refused))
+
 pub returns-in-Err-clause-err : goal.returns-in-Err-clause-err
 returns-in-Err-clause-err c =
     put_same c.args.name.now c.args.vars.now c.in-Some.held c.in-Some.ensures.value Null c.write_at-done.new.value
     c.exchange.new.self c.exchange-2.new.self
     c.in-Some.ensures.exchanged c.exchange-2.ensures.exchanged c.in-Err.ensures.err
+
+pub returns-in-Err-clause-sure : goal.returns-in-Err-clause-sure
+returns-in-Err-clause-sure c = λ kind refused.
+    ap (λ (f : Fault). let r : Result Unit Fault = Err f in r) c.from.ensures
+    ∙ write-sure {X = Unit} c.args.name.now c.args.vars.now (Err c.in-Err.why) c.args.keys.now c.args.push
+    (data_of c.args.value) (data_of c.in-Some.held) c.in-Err.ensures.sure kind
+    (ap (λ (d : Data). then_variables c.args.name.now c.args.vars.now
+    (write_result c.args.keys.now c.args.push (data_of c.args.value) d))
+    (sym (data_there c.args.name.now c.args.vars.now c.in-Some.held c.in-Some.ensures.value)) ∙ refused)

@@ -1,6 +1,11 @@
+use Rattle.std.proofs.Common.{Err, Result, ap, sym, ◌∙◌}
+use Rattle.dp_value.specs.Data.{Data, null}
 use Rattle.dp_value.specs.Entry.{write_result}
 use Rattle.dp_value.specs.Value.{data_of}
-use Rattle.dp_state.proofs.Slots.{then_new}
+use Rattle.dp_state.specs.declared.state.Fault.{Fault}
+use Rattle.dp_state.specs.inner.Parts.{then_variables}
+use Rattle.dp_state.proofs.Refusals.{write-sure}
+use Rattle.dp_state.proofs.Slots.{data_missing, then_new}
 use Rattle.dp_state.proofs.entries.assign_new.Goals as goal
 
 pub returns-in_ok-set-in-Ok-clause-ok : goal.returns-in_ok-set-in-Ok-clause-ok
@@ -9,3 +14,12 @@ returns-in_ok-set-in-Ok-clause-ok c =
     c.set.new.self
     (write_result c.args.keys.now c.args.push (data_of c.args.value)) c.in_ok-try_clone-in-Ok.ensures
     c.in_ok-set-in-Ok.ensures.ok c.in-Ok.ensures.ok
+
+pub returns-in-Err-clause-sure : goal.returns-in-Err-clause-sure
+returns-in-Err-clause-sure c = λ kind refused.
+    ap (λ (f : Fault). let r : Result Unit Fault = Err f in r) c.from.ensures
+    ∙ write-sure {X = Unit} c.args.name.now c.args.vars.now (Err c.in-Err.why) c.args.keys.now c.args.push
+    (data_of c.args.value) null c.in-Err.ensures.sure kind
+    (ap (λ (d : Data). then_variables c.args.name.now c.args.vars.now
+    (write_result c.args.keys.now c.args.push (data_of c.args.value) d))
+    (sym (data_missing c.args.name.now c.args.vars.now c.requires)) ∙ refused)

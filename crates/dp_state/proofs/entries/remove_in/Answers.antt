@@ -6,7 +6,7 @@ use Rattle.dp_value.specs.Entry.{removed}
 use Rattle.dp_value.specs.Value.{data_of}
 use Rattle.dp_state.specs.inner.Parts.{then_variables}
 use Rattle.dp_state.specs.declared.state.Fault.{Fault}
-use Rattle.dp_state.proofs.Removals.{removal-sure}
+use Rattle.dp_state.proofs.Refusals.{removal-sure}
 use Rattle.dp_state.proofs.Slots.{then_put_back, put_same}
 use Rattle.dp_state.proofs.entries.remove_in.Goals as goal
 
@@ -28,7 +28,7 @@ returns-in-Err-clause-err c =
 pub returns-in-Err-clause-sure : goal.returns-in-Err-clause-sure
 returns-in-Err-clause-sure c = λ kind refused.
     ap (λ (f : Fault). let r : Result Unit Fault = Err f in r) c.from.ensures
-    ∙ removal-sure {X = Unit} c.args.name.now c.args.vars.now c.args.keys.now (data_of c.in-Some.held)
-    (Err c.in-Err.why) c.in-Err.ensures.sure kind
+    ∙ removal-sure {X = Unit} c.args.name.now c.args.vars.now (Err c.in-Err.why) c.args.keys.now
+    (data_of c.in-Some.held) c.in-Err.ensures.sure kind
     (ap (λ (o : Option Value). option_map_or (λ value. then_variables c.args.name.now c.args.vars.now
     (removed c.args.keys.now (data_of value))) o (Ok c.args.vars.now)) c.in-Some.ensures.value ∙ refused)

@@ -1,14 +1,13 @@
-use Rattle.std.proofs.Common.{◌≡◌, ◌∷◌, IfErr, OnOk, Result, Ok, Err, Option, Some, None, unwrap_or, inr, ap, sym, ◌∙◌, subst, arith, rules}
+use Rattle.std.proofs.Common.{◌≡◌, ◌∷◌, Bool, List, length, IsOk, OnOk, Result, Ok, Option, Some, None, unwrap_or, ap, sym, ◌∙◌, subst, arith}
 use Rattle.dp_value.specs.declared.errors.WriteError.{WriteError}
-use Rattle.dp_value.specs.declared.errors.WriteError.TheVariants.{Scalar, Unsupported}
 use Rattle.dp_value.specs.declared.key.Key.{Key}
 use Rattle.dp_value.specs.declared.value.Value.{Value}
 use Rattle.dp_value.specs.Data.{Data, Table, data_of_table, null, pairs_weight}
 use Rattle.dp_value.specs.Table.{put, swapped, table_set, table_exchange, value_at}
 use Rattle.dp_value.specs.Value.{data_of}
-use Rattle.dp_value.specs.Entry.{entry_at, holder_of, within, IsCause}
+use Rattle.dp_value.specs.Entry.{holder_of, light}
 use Rattle.dp_value.specs.inner.Writes.{written_in}
-use Rattle.dp_value.proofs.WriteLemmas.{at_exit, on_err, err-along, ok-along, written-entered, written-refused, holder_of-table, exchange-none, exchange-exchange, data-along, weight-swapped_null, IsBehind, behind-done, behind-cause, behind-light, behind-refused, behind-back, behind-ok, behind-err}
+use Rattle.dp_value.proofs.WriteLemmas.{on_err, err-along, ok-along, written-entered, holder_of-table, exchange-none, exchange-exchange, data-along, weight-swapped_null, IsUnder, under-asked, under-light, under-done, under-back, under-ok, under-err}
 use Rattle.dp_value.proofs.writes.+writing.Goals as goal
 
 pub write-returns-in-Array-clause-ok : goal.write-returns-in-Array-clause-ok
@@ -18,133 +17,103 @@ write-returns-in-Array-clause-ok t c =
     let same = written-entered c.is_empty.result c.args.keys.now c.args.push (data_of c.args.new)
     (data_of c.args.value.now) c.in-Array.array (c.is_empty.ensures, c.else-is_empty.either) is in
     subst (λ (r : Result Data WriteError). OnOk c.write_into.result
-    (within c.args.beside r ≡ Ok (data_of_table c.write_into.new.array))) (sym same) c.write_into.ensures.ok
+    (light r ≡ Ok (data_of_table c.write_into.new.array))) (sym same) c.write_into.ensures.ok
 
-pub write-returns-in-Array-clause-refused : goal.write-returns-in-Array-clause-refused
-write-returns-in-Array-clause-refused t c =
+pub write-write_into-requires : goal.write-write_into-requires
+write-write_into-requires t c =
     let is : holder_of (data_of c.args.value.now) ≡ Ok c.in-Array.array =
     ap (λ (v : Value). holder_of (data_of v)) c.in-Array.is ∙ holder_of-table c.in-Array.array in
     let same = written-entered c.is_empty.result c.args.keys.now c.args.push (data_of c.args.new)
     (data_of c.args.value.now) c.in-Array.array (c.is_empty.ensures, c.else-is_empty.either) is in
-    subst (λ (r : Result Data WriteError). IfErr c.write_into.result (IsCause (within c.args.beside r)))
-    (sym same) c.write_into.ensures.refused
-
-pub write-returns-in-Text-clause-refused : goal.write-returns-in-Text-clause-refused
-write-returns-in-Text-clause-refused t c =
-    let is : holder_of (data_of c.args.value.now) ≡ Err Unsupported = ap
-    (λ (v : Value). holder_of (data_of v)) c.in-Text.is in
-    inr (ap (within c.args.beside) (written-refused c.is_empty.result c.args.keys.now c.args.push (data_of c.args.new)
-    (data_of c.args.value.now) Unsupported (c.is_empty.ensures, c.else-is_empty.either) is))
-
-pub write-returns-in-Bool-true-clause-refused : goal.write-returns-in-Bool-true-clause-refused
-write-returns-in-Bool-true-clause-refused t c =
-    let is : holder_of (data_of c.args.value.now) ≡ Err Scalar =
-    search rules in
-    inr (ap (within c.args.beside) (written-refused c.is_empty.result c.args.keys.now c.args.push (data_of c.args.new)
-    (data_of c.args.value.now) Scalar (c.is_empty.ensures, c.else-is_empty.either) is))
+    (omega arith, subst (λ (r : Result Data WriteError). IsOk (light r)) same c.requires)
 
 pub write_row-exchange-requires : goal.write_row-exchange-requires
 write_row-exchange-requires t c =
     λ is. omega (arith, weight-swapped_null c.args.columns.now.pairs c.in-Some-key.key, is.light)
 
--- the entry under a key that is not there
-absent : (t : Table) (key : Key) → None ≡ value_at t key → entry_at t key ≡ null
-absent t key lacks = ap (λ (o : Option Data). unwrap_or o null) (sym lacks)
+-- what the steps to a first key tell of the value under it
+under : {keys rest : List (Option Key)} {o : Option Key} (key : Key) (push : Bool) (new : Data) (t : Table)
+    (found : Option Data) → keys ≡ o ∷ rest → o ≡ Some key → found ≡ value_at t key
+    → IsOk (light (written_in keys push new t)) → IsUnder keys key rest push new t (unwrap_or found null)
+under {keys} {rest} {o} key push new t found is first has asked =
+    record {
+      first = is ∙ ap (λ (o : Option Key). o ∷ rest) first;
+      entry = ap (λ (o : Option Data). unwrap_or o null) (sym has);
+      asked = asked;
+    }
 
-present : (t : Table) (key : Key) (d : Data) → Some d ≡ value_at t key → entry_at t key ≡ d
-present t key d has = ap (λ (o : Option Data). unwrap_or o null) (sym has)
+pub write_row-write-requires : goal.write_row-write-requires
+write_row-write-requires t c = (
+  omega (arith, ap length c.in-Some.ensures.cases.0),
+  under-asked (under c.in-Some-key.key c.args.push (data_of c.args.new) c.args.columns.now None
+      c.in-Some.ensures.cases.0 c.in-Some-key.is c.in_default-exchange.ensures.value c.requires),
+)
 
-pub write_row-returns-in_err-write-clause-refused : goal.write_row-returns-in_err-write-clause-refused
-write_row-returns-in_err-write-clause-refused t c =
-    let is : IsBehind c.args.beside c.beside_entry-beside_child.result c.args.keys.now c.in-Some-key.key
-    c.in-Some.rest.now c.args.columns.now null = record {
-      room = c.beside_entry-beside_child.ensures;
-      first = c.in-Some.ensures.cases.0 ∙ ap (λ (o : Option Key). o ∷ c.in-Some.rest.now) c.in-Some-key.is;
-      entry = absent c.args.columns.now c.in-Some-key.key c.in_default-exchange.ensures.value;
-    } in
-    at_exit c.from_residual.result c.in_err-write.field-0.0 (within c.args.beside
-    (written_in c.args.keys.now c.args.push (data_of c.args.new) c.args.columns.now)) c.from_residual.ensures.1
-    (behind-cause c.args.beside c.beside_entry-beside_child.result c.args.keys.now c.in-Some-key.key c.in-Some.rest.now
-    c.args.push (data_of c.args.new) c.args.columns.now null is c.in_err-write.field-0.0
-    c.in_err-write.ensures.refused)
+-- an array without a key stays as it is
+stays : (t u : Table) (key : Key) → u ≡ table_exchange t key null → None ≡ value_at t key → u ≡ t
+stays t u key is lacks = is ∙ exchange-none t key null (sym lacks)
 
 pub write_row-returns-in_err-write-clause-err : goal.write_row-returns-in_err-write-clause-err
 write_row-returns-in_err-write-clause-err t c =
-    on_err c.from_residual.result c.exchange.new.self c.args.columns.now
-    (c.in_default-exchange.ensures.exchanged
-    ∙ exchange-none c.args.columns.now c.in-Some-key.key null (sym c.in_default-exchange.ensures.value))
+    on_err c.from_residual.result _ _ (stays c.args.columns.now c.exchange.new.self c.in-Some-key.key
+    c.in_default-exchange.ensures.exchanged c.in_default-exchange.ensures.value)
 
 pub write_row-returns-in_err-try_clone-clause-err : goal.write_row-returns-in_err-try_clone-clause-err
 write_row-returns-in_err-try_clone-clause-err t c =
-    on_err c.from_residual-in_err-try_clone.result c.exchange.new.self c.args.columns.now
-    (c.in_default-exchange.ensures.exchanged
-    ∙ exchange-none c.args.columns.now c.in-Some-key.key null (sym c.in_default-exchange.ensures.value))
+    on_err c.from_residual-in_err-try_clone.result _ _ (stays c.args.columns.now c.exchange.new.self c.in-Some-key.key
+    c.in_default-exchange.ensures.exchanged c.in_default-exchange.ensures.value)
 
 pub write_row-set_entry-requires : goal.write_row-set_entry-requires
 write_row-set_entry-requires t c =
-    let is : IsBehind c.args.beside c.beside_entry-beside_child.result c.args.keys.now c.in-Some-key.key
-    c.in-Some.rest.now c.args.columns.now null = record {
-      room = c.beside_entry-beside_child.ensures;
-      first = c.in-Some.ensures.cases.0 ∙ ap (λ (o : Option Key). o ∷ c.in-Some.rest.now) c.in-Some-key.is;
-      entry = absent c.args.columns.now c.in-Some-key.key c.in_default-exchange.ensures.value;
-    } in
-    let light = behind-light c.args.beside c.beside_entry-beside_child.result c.args.keys.now c.in-Some-key.key
-    c.in-Some.rest.now c.args.push (data_of c.args.new) c.args.columns.now null is
-    (data_of c.write.new.value) c.in_ok-write.ensures.ok in
-    let same : c.exchange.new.self ≡ c.args.columns.now =
-    c.in_default-exchange.ensures.exchanged
-    ∙ exchange-none c.args.columns.now c.in-Some-key.key null (sym c.in_default-exchange.ensures.value) in
+    let d = data_of c.write.new.value in
+    let light = under-light (under c.in-Some-key.key c.args.push (data_of c.args.new) c.args.columns.now None
+    c.in-Some.ensures.cases.0 c.in-Some-key.is c.in_default-exchange.ensures.value c.requires) d
+    c.in_ok-write.ensures.ok in
+    let same = stays c.args.columns.now c.exchange.new.self c.in-Some-key.key
+    c.in_default-exchange.ensures.exchanged c.in_default-exchange.ensures.value in
     omega (
       arith,
       light,
-      ap (λ (x : Table). pairs_weight (put x.pairs c.in_ok-try_clone.field-0 (data_of c.write.new.value))) same,
-      ap (λ (k : Key). pairs_weight (put c.args.columns.now.pairs k (data_of c.write.new.value)))
-          c.in_ok-try_clone.ensures,
+      ap (λ (x : Table). pairs_weight (put x.pairs c.in_ok-try_clone.field-0 d)) same,
+      ap (λ (k : Key). pairs_weight (put c.args.columns.now.pairs k d)) c.in_ok-try_clone.ensures,
     )
 
 pub write_row-returns-in_default-exchange-clause-ok : goal.write_row-returns-in_default-exchange-clause-ok
 write_row-returns-in_default-exchange-clause-ok t c =
-    let is : IsBehind c.args.beside c.beside_entry-beside_child.result c.args.keys.now c.in-Some-key.key
-    c.in-Some.rest.now c.args.columns.now null = record {
-      room = c.beside_entry-beside_child.ensures;
-      first = c.in-Some.ensures.cases.0 ∙ ap (λ (o : Option Key). o ∷ c.in-Some.rest.now) c.in-Some-key.is;
-      entry = absent c.args.columns.now c.in-Some-key.key c.in_default-exchange.ensures.value;
-    } in
-    let done = behind-done c.args.beside c.beside_entry-beside_child.result c.args.keys.now c.in-Some-key.key
-    c.in-Some.rest.now c.args.push (data_of c.args.new) c.args.columns.now null is
-    (data_of c.write.new.value) c.in_ok-write.ensures.ok in
-    let same : c.exchange.new.self ≡ c.args.columns.now =
-    c.in_default-exchange.ensures.exchanged
-    ∙ exchange-none c.args.columns.now c.in-Some-key.key null (sym c.in_default-exchange.ensures.value) in
-    let set : table_set c.exchange.new.self c.in_ok-try_clone.field-0
-    (data_of c.write.new.value) ≡ table_set c.args.columns.now c.in-Some-key.key (data_of c.write.new.value) =
-    ap (λ (x : Table). table_set x c.in_ok-try_clone.field-0 (data_of c.write.new.value)) same
-    ∙ ap (λ (k : Key). table_set c.args.columns.now k (data_of c.write.new.value)) c.in_ok-try_clone.ensures in
-    ok-along c.set_entry.result (within c.args.beside (written_in c.args.keys.now c.args.push
-    (data_of c.args.new) c.args.columns.now)) c.set_entry.new.columns
-    (table_set c.exchange.new.self c.in_ok-try_clone.field-0 (data_of c.write.new.value)) c.set_entry.ensures.ok
+    let d = data_of c.write.new.value in
+    let done = under-done (under c.in-Some-key.key c.args.push (data_of c.args.new) c.args.columns.now None
+    c.in-Some.ensures.cases.0 c.in-Some-key.is c.in_default-exchange.ensures.value c.requires) d
+    c.in_ok-write.ensures.ok in
+    let same = stays c.args.columns.now c.exchange.new.self c.in-Some-key.key
+    c.in_default-exchange.ensures.exchanged c.in_default-exchange.ensures.value in
+    let set : table_set c.exchange.new.self c.in_ok-try_clone.field-0 d
+    ≡ table_set c.args.columns.now c.in-Some-key.key d =
+    ap (λ (x : Table). table_set x c.in_ok-try_clone.field-0 d) same
+    ∙ ap (λ (k : Key). table_set c.args.columns.now k d) c.in_ok-try_clone.ensures in
+    ok-along c.set_entry.result _ c.set_entry.new.columns _ c.set_entry.ensures.ok
     (done ∙ ap (λ (u : Table). let r : Result Data WriteError = Ok (data_of_table u) in r) (sym set))
 
 pub write_row-returns-in_default-exchange-clause-err : goal.write_row-returns-in_default-exchange-clause-err
 write_row-returns-in_default-exchange-clause-err t c =
-    err-along c.set_entry.result c.set_entry.new.columns c.exchange.new.self c.args.columns.now c.set_entry.ensures.err
-    (c.in_default-exchange.ensures.exchanged
-    ∙ exchange-none c.args.columns.now c.in-Some-key.key null (sym c.in_default-exchange.ensures.value))
+    err-along c.set_entry.result c.set_entry.new.columns _ _ c.set_entry.ensures.err
+    (stays c.args.columns.now c.exchange.new.self c.in-Some-key.key
+    c.in_default-exchange.ensures.exchanged c.in_default-exchange.ensures.value)
+
+pub write_row-write-result-requires : goal.write_row-write-result-requires
+write_row-write-result-requires t c = (
+  omega (arith, ap length c.in-Some.ensures.cases.0),
+  under-asked (under c.in-Some-key.key c.args.push (data_of c.args.new) c.args.columns.now
+      (Some (data_of c.in-Some-exchange.child)) c.in-Some.ensures.cases.0 c.in-Some-key.is
+      c.in-Some-exchange.ensures.value c.requires),
+)
 
 pub write_row-exchange-requires-2 : goal.write_row-exchange-requires-2
 write_row-exchange-requires-2 t c =
-    let is : IsBehind c.args.beside c.beside_entry-beside_child.result c.args.keys.now c.in-Some-key.key
-    c.in-Some.rest.now c.args.columns.now (data_of c.in-Some-exchange.child) = record {
-      room = c.beside_entry-beside_child.ensures;
-      first = c.in-Some.ensures.cases.0 ∙ ap (λ (o : Option Key). o ∷ c.in-Some.rest.now) c.in-Some-key.is;
-      entry =
-          present c.args.columns.now c.in-Some-key.key (data_of c.in-Some-exchange.child)
-          c.in-Some-exchange.ensures.value;
-    } in
-    let back = behind-back c.args.beside c.beside_entry-beside_child.result c.args.keys.now c.in-Some-key.key
-    c.in-Some.rest.now c.args.push (data_of c.args.new) c.args.columns.now
-    (data_of c.in-Some-exchange.child) is c.in-Some-exchange.ensures.table (sym c.in-Some-exchange.ensures.value)
-    c.write-result.result (data_of c.write-result.new.value) c.write-result.ensures.ok
+    let back = under-back (under c.in-Some-key.key c.args.push (data_of c.args.new) c.args.columns.now
+    (Some (data_of c.in-Some-exchange.child)) c.in-Some.ensures.cases.0 c.in-Some-key.is
+    c.in-Some-exchange.ensures.value c.requires) c.in-Some-exchange.ensures.table
+    (sym c.in-Some-exchange.ensures.value) c.write-result.result (data_of c.write-result.new.value)
+    c.write-result.ensures.ok
     (data-along c.write-result.result c.write-result.new.value c.in-Some-exchange.child c.write-result.ensures.err) in
     λ table. omega (
       arith,
@@ -161,50 +130,22 @@ put_back t u v key d taken back =
 
 pub write_row-returns-clause-ok : goal.write_row-returns-clause-ok
 write_row-returns-clause-ok t c =
-    let is : IsBehind c.args.beside c.beside_entry-beside_child.result c.args.keys.now c.in-Some-key.key
-    c.in-Some.rest.now c.args.columns.now (data_of c.in-Some-exchange.child) = record {
-      room = c.beside_entry-beside_child.ensures;
-      first = c.in-Some.ensures.cases.0 ∙ ap (λ (o : Option Key). o ∷ c.in-Some.rest.now) c.in-Some-key.is;
-      entry =
-          present c.args.columns.now c.in-Some-key.key (data_of c.in-Some-exchange.child)
-          c.in-Some-exchange.ensures.value;
-    } in
-    behind-ok c.args.beside c.beside_entry-beside_child.result c.args.keys.now c.in-Some-key.key c.in-Some.rest.now
-    c.args.push (data_of c.args.new) c.args.columns.now
-    (data_of c.in-Some-exchange.child) is c.in-Some-exchange.ensures.table (sym c.in-Some-exchange.ensures.value)
-    c.write-result.result (data_of c.write-result.new.value) c.exchange-2.new.self
+    under-ok (under c.in-Some-key.key c.args.push (data_of c.args.new) c.args.columns.now
+    (Some (data_of c.in-Some-exchange.child)) c.in-Some.ensures.cases.0 c.in-Some-key.is
+    c.in-Some-exchange.ensures.value c.requires) c.in-Some-exchange.ensures.table
+    (sym c.in-Some-exchange.ensures.value) c.write-result.result (data_of c.write-result.new.value)
+    c.exchange-2.new.self
     (put_back c.args.columns.now c.exchange.new.self c.exchange-2.new.self c.in-Some-key.key
     (data_of c.write-result.new.value) c.in-Some-exchange.ensures.exchanged c.exchange-2.ensures.exchanged)
     c.write-result.ensures.ok
 
-pub write_row-returns-clause-refused : goal.write_row-returns-clause-refused
-write_row-returns-clause-refused t c =
-    let is : IsBehind c.args.beside c.beside_entry-beside_child.result c.args.keys.now c.in-Some-key.key
-    c.in-Some.rest.now c.args.columns.now (data_of c.in-Some-exchange.child) = record {
-      room = c.beside_entry-beside_child.ensures;
-      first = c.in-Some.ensures.cases.0 ∙ ap (λ (o : Option Key). o ∷ c.in-Some.rest.now) c.in-Some-key.is;
-      entry =
-          present c.args.columns.now c.in-Some-key.key (data_of c.in-Some-exchange.child)
-          c.in-Some-exchange.ensures.value;
-    } in
-    behind-refused c.args.beside c.beside_entry-beside_child.result c.args.keys.now c.in-Some-key.key c.in-Some.rest.now
-    c.args.push (data_of c.args.new) c.args.columns.now
-    (data_of c.in-Some-exchange.child) is c.write-result.result c.write-result.ensures.refused
-
 pub write_row-returns-clause-err : goal.write_row-returns-clause-err
 write_row-returns-clause-err t c =
-    let is : IsBehind c.args.beside c.beside_entry-beside_child.result c.args.keys.now c.in-Some-key.key
-    c.in-Some.rest.now c.args.columns.now (data_of c.in-Some-exchange.child) = record {
-      room = c.beside_entry-beside_child.ensures;
-      first = c.in-Some.ensures.cases.0 ∙ ap (λ (o : Option Key). o ∷ c.in-Some.rest.now) c.in-Some-key.is;
-      entry =
-          present c.args.columns.now c.in-Some-key.key (data_of c.in-Some-exchange.child)
-          c.in-Some-exchange.ensures.value;
-    } in
-    behind-err c.args.beside c.beside_entry-beside_child.result c.args.keys.now c.in-Some-key.key c.in-Some.rest.now
-    c.args.push (data_of c.args.new) c.args.columns.now
-    (data_of c.in-Some-exchange.child) is c.in-Some-exchange.ensures.table (sym c.in-Some-exchange.ensures.value)
-    c.write-result.result (data_of c.write-result.new.value) c.exchange-2.new.self
+    under-err (under c.in-Some-key.key c.args.push (data_of c.args.new) c.args.columns.now
+    (Some (data_of c.in-Some-exchange.child)) c.in-Some.ensures.cases.0 c.in-Some-key.is
+    c.in-Some-exchange.ensures.value c.requires) c.in-Some-exchange.ensures.table
+    (sym c.in-Some-exchange.ensures.value) c.write-result.result (data_of c.write-result.new.value)
+    c.exchange-2.new.self
     (put_back c.args.columns.now c.exchange.new.self c.exchange-2.new.self c.in-Some-key.key
     (data_of c.write-result.new.value) c.in-Some-exchange.ensures.exchanged c.exchange-2.ensures.exchanged)
     (data-along c.write-result.result c.write-result.new.value c.in-Some-exchange.child c.write-result.ensures.err)

@@ -1,9 +1,9 @@
-use Rattle.std.proofs.Common.{ℕ, ◌++◌, [], false, sym, ap, ◌∙◌}
+use Rattle.std.proofs.Common.{ℕ, [], ◌++◌, false, refl, sym, ap, ◌∙◌}
 use Rattle.dp_value.specs.declared.value.Value.TheVariants.{Null, Text}
-use Rattle.dp_state.specs.Places.{assigned}
+use Rattle.dp_state.specs.Places.{assigned, with_own}
 use Rattle.dp_state.specs.inner.Parts.{assigned_in}
 use Rattle.dp_state.specs.States.{own_variables}
-use Rattle.dp_state.proofs.VariableSteps.{assigned-home, on_either, on_ok, on_refused, put_same, with_result, within-still}
+use Rattle.dp_state.proofs.VariableSteps.{assigned-home, on_either, on_ok, on_refused, on_sure, put_same, with_result, within-still}
 use Rattle.dp_state.proofs.state.State.append.Goals as goal
 
 pub exchange_own-requires : goal.exchange_own-requires
@@ -16,10 +16,10 @@ returns-clause-ok c =
     on_ok c.home-at.result c.args.self.now c.take_own-vars.new.self c.exchange_own.new.self c.take_own-vars.result
     c.append_in-done.new.vars c.take_own-vars.ensures.taken c.take_own-vars.ensures.left
     c.exchange_own.ensures.given
-    (assigned 0 c.args.name.now [] false (Text (c.args.text ++ c.args.piece.now)) c.args.self.now)
-    (assigned_in c.args.name.now [] false (Text (c.args.text ++ c.args.piece.now)))
-    (assigned-home c.args.self.now 0 c.args.name.now [] false (Text (c.args.text ++ c.args.piece.now))
-    ∙ ap (λ (at : ℕ). with_result at c.args.self.now (assigned_in c.args.name.now [] false
+    (assigned 0 c.args.name.now c.args.keys.now false (Text (c.args.text ++ c.args.piece.now)) c.args.self.now)
+    (assigned_in c.args.name.now c.args.keys.now false (Text (c.args.text ++ c.args.piece.now)))
+    (assigned-home c.args.self.now 0 c.args.name.now c.args.keys.now false (Text (c.args.text ++ c.args.piece.now))
+    ∙ ap (λ (at : ℕ). with_result at c.args.self.now (assigned_in c.args.name.now c.args.keys.now false
     (Text (c.args.text ++ c.args.piece.now)) (own_variables c.args.self.now at))) (sym c.home-at.ensures.home))
     c.append_in-done.result c.append_in-done.ensures.ok
 
@@ -28,10 +28,10 @@ returns-clause-refused c =
     on_refused c.home-at.result c.args.self.now c.take_own-vars.new.self c.exchange_own.new.self c.take_own-vars.result
     c.append_in-done.new.vars c.take_own-vars.ensures.taken c.take_own-vars.ensures.left
     c.exchange_own.ensures.given
-    (assigned 0 c.args.name.now [] false (Text (c.args.text ++ c.args.piece.now)) c.args.self.now)
-    (assigned_in c.args.name.now [] false (Text (c.args.text ++ c.args.piece.now)))
-    (assigned-home c.args.self.now 0 c.args.name.now [] false (Text (c.args.text ++ c.args.piece.now))
-    ∙ ap (λ (at : ℕ). with_result at c.args.self.now (assigned_in c.args.name.now [] false
+    (assigned 0 c.args.name.now c.args.keys.now false (Text (c.args.text ++ c.args.piece.now)) c.args.self.now)
+    (assigned_in c.args.name.now c.args.keys.now false (Text (c.args.text ++ c.args.piece.now)))
+    (assigned-home c.args.self.now 0 c.args.name.now c.args.keys.now false (Text (c.args.text ++ c.args.piece.now))
+    ∙ ap (λ (at : ℕ). with_result at c.args.self.now (assigned_in c.args.name.now c.args.keys.now false
     (Text (c.args.text ++ c.args.piece.now)) (own_variables c.args.self.now at))) (sym c.home-at.ensures.home))
     c.append_in-done.result c.append_in-done.ensures.refused
 
@@ -46,8 +46,32 @@ returns-clause-memory c =
     λ want. on_either c.home-at.result c.args.self.now c.take_own-vars.new.self c.exchange_own.new.self
     c.take_own-vars.result c.append_in-done.new.vars c.take_own-vars.ensures.taken c.take_own-vars.ensures.left
     c.exchange_own.ensures.given
-    (assigned 0 c.args.name.now [] false Null c.args.self.now) (assigned_in c.args.name.now [] false Null)
-    (assigned-home c.args.self.now 0 c.args.name.now [] false Null
-    ∙ ap (λ (at : ℕ). with_result at c.args.self.now (assigned_in c.args.name.now [] false Null
+    (assigned 0 c.args.name.now c.args.keys.now false Null c.args.self.now) (assigned_in c.args.name.now c.args.keys.now false Null)
+    (assigned-home c.args.self.now 0 c.args.name.now c.args.keys.now false Null
+    ∙ ap (λ (at : ℕ). with_result at c.args.self.now (assigned_in c.args.name.now c.args.keys.now false Null
     (own_variables c.args.self.now at))) (sym c.home-at.ensures.home))
     c.home-at.ensures.within (c.append_in-done.ensures.memory want)
+
+pub returns-clause-sure : goal.returns-clause-sure
+returns-clause-sure c =
+    on_sure c.home-at.result c.args.self.now c.take_own-vars.new.self c.exchange_own.new.self c.take_own-vars.result
+    c.append_in-done.new.vars c.take_own-vars.ensures.taken c.take_own-vars.ensures.left
+    c.exchange_own.ensures.given
+    (assigned 0 c.args.name.now c.args.keys.now false (Text (c.args.text ++ c.args.piece.now)) c.args.self.now)
+    (assigned_in c.args.name.now c.args.keys.now false (Text (c.args.text ++ c.args.piece.now)))
+    (assigned-home c.args.self.now 0 c.args.name.now c.args.keys.now false (Text (c.args.text ++ c.args.piece.now))
+    ∙ ap (λ (at : ℕ). with_result at c.args.self.now (assigned_in c.args.name.now c.args.keys.now false
+    (Text (c.args.text ++ c.args.piece.now)) (own_variables c.args.self.now at))) (sym c.home-at.ensures.home))
+    c.append_in-done.result c.append_in-done.ensures.sure
+
+pub returns-then-at-eq0-clause-sure : goal.returns-then-at-eq0-clause-sure
+returns-then-at-eq0-clause-sure c =
+    on_sure 0 c.args.self.now (with_own 0 [] c.args.self.now)
+    (with_own 0 c.append_in.new.vars c.args.self.now) c.args.self.now.globals c.append_in.new.vars refl refl refl
+    (assigned 0 c.args.name.now c.args.keys.now false (Text (c.args.text ++ c.args.piece.now)) c.args.self.now)
+    (assigned_in c.args.name.now c.args.keys.now false (Text (c.args.text ++ c.args.piece.now)))
+    (assigned-home c.args.self.now 0 c.args.name.now c.args.keys.now false (Text (c.args.text ++ c.args.piece.now))
+    ∙ ap (λ (at : ℕ). with_result at c.args.self.now (assigned_in c.args.name.now c.args.keys.now false
+    (Text (c.args.text ++ c.args.piece.now)) (own_variables c.args.self.now at)))
+    (sym c.home-at.ensures.home ∙ c.if-at-eq0.true))
+    c.append_in.result c.append_in.ensures.sure

@@ -42,7 +42,7 @@ returns-clause-err c =
 
 pub returns-clause-sure : goal.returns-clause-sure
 returns-clause-sure c =
-    λ whole plain. on_sure c.home-at.result c.args.self.now c.take_own-vars.new.self c.exchange_own.new.self
+    on_sure c.home-at.result c.args.self.now c.take_own-vars.new.self c.exchange_own.new.self
     c.take_own-vars.result c.assign_in-done.new.vars c.take_own-vars.ensures.taken c.take_own-vars.ensures.left
     c.exchange_own.ensures.given
     (assigned c.args.level c.args.name.now c.args.keys.now c.args.push c.args.value c.args.self.now)
@@ -50,15 +50,15 @@ returns-clause-sure c =
     (assigned-home c.args.self.now c.args.level c.args.name.now c.args.keys.now c.args.push c.args.value
     ∙ ap (λ (at : ℕ). with_result at c.args.self.now (assigned_in c.args.name.now c.args.keys.now c.args.push
     c.args.value (own_variables c.args.self.now at))) (sym c.home-at.ensures.home))
-    c.assign_in-done.result (c.assign_in-done.ensures.sure whole plain)
+    c.assign_in-done.result c.assign_in-done.ensures.sure
 
 pub returns-then-at-eq0-clause-sure : goal.returns-then-at-eq0-clause-sure
 returns-then-at-eq0-clause-sure c =
-    λ whole plain. on_sure 0 c.args.self.now (with_own 0 [] c.args.self.now)
+    on_sure 0 c.args.self.now (with_own 0 [] c.args.self.now)
     (with_own 0 c.assign_in.new.vars c.args.self.now) c.args.self.now.globals c.assign_in.new.vars refl refl refl
     (assigned c.args.level c.args.name.now c.args.keys.now c.args.push c.args.value c.args.self.now)
     (assigned_in c.args.name.now c.args.keys.now c.args.push c.args.value)
     (assigned-home c.args.self.now c.args.level c.args.name.now c.args.keys.now c.args.push c.args.value
     ∙ ap (λ (at : ℕ). with_result at c.args.self.now (assigned_in c.args.name.now c.args.keys.now c.args.push
     c.args.value (own_variables c.args.self.now at))) (sym c.home-at.ensures.home ∙ c.if-at-eq0.true))
-    c.assign_in.result (c.assign_in.ensures.sure whole plain)
+    c.assign_in.result c.assign_in.ensures.sure
