@@ -51,6 +51,8 @@ pub(crate) fn run_beside<R: Threads + Wait + Sync, A: Job, B: Job + Send>(
     mine: A,
     other: B,
 ) -> Result<(A::Done, B::Done), (A, B)>
+where
+    B::Done: Send,
     requires mine { A.may_run mine }
     requires other { B.may_run other }
     ensures ok { IfOk result (λ done. A.may_give mine done.0 × B.may_give other done.1) }

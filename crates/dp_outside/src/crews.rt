@@ -76,6 +76,8 @@ pub(crate) fn answers_of<R: Threads + Wait + Sync, J: Job + Send>(
     alloc: Global,
     asked: Vec<Asked<J>>,
 ) -> Result<Vec<Answer<J>>, Memory>
+where
+    J::Done: Send,
     requires ready { (job : _) → J.may_run job }
     ensures { IfOk result (λ answers. AllZip (λ one. Settled J.may_give one.job one.granted)
         asked.items answers.items) }
@@ -117,6 +119,8 @@ fn start_one<'s, E, J: Job + Send + 's>(
     refused: &'s AtomicBool,
     one: Asked<J>,
 ) -> Start<J>
+where
+    J::Done: Send,
     requires ready { (job : _) → J.may_run job }
     ensures { Started J.may_give (λ thread. thread.promise.0.value) one.job one.granted result }
 {
@@ -151,6 +155,8 @@ fn start_each<'s, E, J: Job + Send + 's>(
     asked: Vec<Asked<J>>,
     mut started: Vec<Start<J>>,
 ) -> Vec<Start<J>>
+where
+    J::Done: Send,
     requires ready { (job : _) → J.may_run job }
     requires flags { length refused.now ≡ length asked.items }
     requires empty { started.items ≡ [] }
@@ -214,6 +220,8 @@ fn run_scoped<'s, E, R: Threads, J: Job + Send + 's>(
     asked: Vec<Asked<J>>,
     answers: Vec<Answer<J>>,
 ) -> Result<Vec<Answer<J>>, Memory>
+where
+    J::Done: Send,
     requires ready { (job : _) → J.may_run job }
     requires flags { length refused.now ≡ length asked.items }
     requires empty { answers.items ≡ [] }
@@ -234,6 +242,8 @@ fn run_crew<R: Threads + Wait + Sync, J: Job + Send>(
     asked: Vec<Asked<J>>,
     answers: Vec<Answer<J>>,
 ) -> Result<Vec<Answer<J>>, Memory>
+where
+    J::Done: Send,
     requires ready { (job : _) → J.may_run job }
     requires empty { answers.items ≡ [] }
     requires room { length asked.items ≤ vec_capacity answers }

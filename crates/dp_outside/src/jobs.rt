@@ -13,9 +13,10 @@ use std::alloc::Global;
 use std::sync::Wait;
 use std::thread::Threads;
 
-/// Work that is run once.
+/// Work that is run once. What it gives has to be fit for another thread (`Send`) only where the job is run in a thread
+/// of its own: `beside` asks that of `other`, `crew` of each job.
 pub trait Job: Drop {
-    type Done: Send + Drop;
+    type Done: Drop;
 
     /// Whether it may be run.
     ghost may_run: { Self → Type 0 };
@@ -85,6 +86,8 @@ pub trait Spawner: Sized + Send + Drop {
         mine: A,
         other: B,
     ) -> Result<(A::Done, B::Done), (A, B)>
+    where
+        B::Done: Send,
         requires mine { A.may_run mine }
         requires other { B.may_run other }
         ensures ok { IfOk result (λ done. A.may_give mine done.0 × B.may_give other done.1) }
@@ -116,6 +119,8 @@ pub trait Spawner: Sized + Send + Drop {
         alloc: Global,
         jobs: Vec<J>,
     ) -> Result<Vec<Result<J::Done, J>>, Memory>
+    where
+        J::Done: Send,
         requires ready { (job : _) → J.may_run job }
         ensures answers { IfOk result (λ answers. AllZip (RanOrBack J.may_give)
             jobs.items answers.items) }
