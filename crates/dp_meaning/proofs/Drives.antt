@@ -147,9 +147,9 @@ then_at {B} {rules} {kind} {line} {go} {s} {t} {u} {x} {done} e h =
     then-by rules (moment_run kind line s) (λ _ v. go v) t u x done e h.done
 
 -- what the exit of a `?` returns
-pub exits : {B : Type 0} {rules : Rules} {run : Run B} {s : State} (h : Halt) (x : Result B Halt)
+pub exits : {B : Type 0} {rules : Rules} {run : Run B} {s : State} {h : Halt} {x : Result B Halt}
     → IsErrAnd x (λ y. y ≡ h) → Evaluates rules run (Err h) s → Evaluates rules run x s
-exits {B} {rules} {run} {s} h x i e = let p = err_from_is_err_and x i in rw (p.1, p.2) e
+exits {B} {rules} {run} {s} {h} {x} i e = let p = err_from_is_err_and x i in rw (p.1, p.2) e
 
 -- a moment by itself, by the tests that are made at it
 module _ (rules : Rules) (kind : MomentKind) (line : ℕ) (s u : State) where

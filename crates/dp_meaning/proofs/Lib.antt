@@ -15,6 +15,7 @@ pub mod SizeLaws
 pub mod ListLaws
 pub mod LoopLaws
 pub mod CallLaws
+pub mod ByEvaluator
 pub mod OfBundle
 pub mod PureLaws
 pub mod TreeMomentless

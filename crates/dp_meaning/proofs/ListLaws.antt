@@ -1,12 +1,15 @@
 -- Lists of parts, one element after another.
-use Rattle.std.proofs.Common.{◌≡◌, Bool, ℕ, zero, suc, ◌+◌, ◌<◌, List, [], ◌∷◌, ◌++◌, length, get_or, drop, drop-cons, add-one, Some, slice_get, arith, Result, Ok, Err, refl, sym, ap, ◌∙◌, subst, append_assoc, append-nil}
+use Rattle.std.proofs.Common.{◌≡◌, Bool, ℕ, zero, suc, ◌+◌, ◌<◌, List, [], ◌∷◌, ◌++◌, length, map, get_or, drop, drop-cons, add-one, Some, slice_get, arith, Result, Ok, Err, refl, sym, ap, ◌∙◌, subst, append_assoc, append-nil}
 use Rattle.dp_state.specs.declared.state.State.{State}
 use Rattle.dp_tree.specs.declared.tree.Expression.{Expression}
+use Rattle.dp_tree.specs.declared.tree.Place.{Place}
 use Rattle.dp_value.specs.declared.value.Value.{Value}
 use Rattle.dp_actions.specs.declared.halt.Halt.{Halt}
+use Rattle.dp_meaning.specs.declared.evaluator.Evaluator.{Evaluator}
 use Rattle.dp_meaning.specs.inner.Drive.{Rules, Evaluates}
-use Rattle.dp_actions.specs.Expressions.{evaluation, evaluations}
-use Rattle.dp_actions.specs.Places.{PlaceRun, isset_run, missing_at, missing_run}
+use Rattle.dp_meaning.specs.inner.Evaluation.{goes_by}
+use Rattle.dp_actions.specs.Expressions.{evaluation, evaluations, place_run}
+use Rattle.dp_actions.specs.Places.{isset_run, missing_at, missing_run}
 use Rattle.dp_actions.specs.Run.{Run, Done, and_then}
 use Rattle.dp_actions.specs.Setting.{Setting}
 use Rattle.dp_meaning.proofs.Drives.{gives, breaks_off, goes_on, joined_off, joined_on}
@@ -65,17 +68,29 @@ module _ (rules : Rules) (setting : Setting) where
 
 -- ---- isset, by whether its first place is missing
 
-module _ {rules : Rules} (place : PlaceRun) (places : List PlaceRun) (setting : Setting) where
-  pub place_off : (s : State) {h : Halt} {t : State} → Evaluates rules (missing_at place setting s) (Err h) t
-      → Evaluates rules (isset_run (place ∷ places) setting s) (Err h) t
-  place_off s {h} {t} e =
-      subst (λ z. Evaluates rules z (Err h) t) (sym (isset-place place places setting s)) (joined_off
-      (place.indices setting s) (λ indices u. missing_run place.name indices u) (isset-on place places setting) e)
+module _ {O : Type 0} (place : Place) (places : List Place) (by : Evaluator O) where
+  -- the rest, once it is known whether the first place is missing
+  abbrev pub isset-rest : Bool → State → Run Value
+  isset-rest = isset-on (place_run place) (map place_run places) (goes_by by)
 
-  pub place_on : (s : State) {missing : Bool} {t u : State} {x : Result Value Halt}
-      → Evaluates rules (missing_at place setting s) (Ok missing) t
-      → Evaluates rules (isset-on place places setting missing t) x u
-      → Evaluates rules (isset_run (place ∷ places) setting s) x u
-  place_on s {missing} {t} {u} {x} e k =
-      subst (λ z. Evaluates rules z x u) (sym (isset-place place places setting s)) (joined_on
-      (place.indices setting s) (λ indices u. missing_run place.name indices u) (isset-on place places setting) e k)
+  isset-first : (s : State) → isset_run (place_run place ∷ map place_run places) (goes_by by) s
+      ≡ and_then ((place_run place).indices (goes_by by) s) (λ indices t.
+      and_then (missing_run (place_run place).name indices t) isset-rest)
+  isset-first s = isset-place (place_run place) (map place_run places) (goes_by by) s
+
+  pub place_off : {rules : Rules} (s : State) {h : Halt} {t : State}
+      → Evaluates rules (missing_at (place_run place) (goes_by by) s) (Err h) t
+      → Evaluates rules (isset_run (place_run place ∷ map place_run places) (goes_by by) s) (Err h) t
+  place_off {rules} s {h} {t} e =
+      subst (λ z. Evaluates rules z (Err h) t) (sym (isset-first s))
+      (joined_off ((place_run place).indices (goes_by by) s)
+      (λ indices u. missing_run (place_run place).name indices u) isset-rest e)
+
+  pub place_on : {rules : Rules} (s : State) {missing : Bool} {t u : State} {x : Result Value Halt}
+      → Evaluates rules (missing_at (place_run place) (goes_by by) s) (Ok missing) t
+      → Evaluates rules (isset-rest missing t) x u
+      → Evaluates rules (isset_run (place_run place ∷ map place_run places) (goes_by by) s) x u
+  place_on {rules} s {missing} {t} {u} {x} e k =
+      subst (λ z. Evaluates rules z x u) (sym (isset-first s)) (joined_on
+      ((place_run place).indices (goes_by by) s) (λ indices u. missing_run (place_run place).name indices u)
+      isset-rest e k)

@@ -2,6 +2,7 @@
 use Rattle.std.proofs.Common.{◌≡◌, ℕ, zero, suc, ◌+◌, ◌-◌, ◌*◌, ◌<◌, ◌≤◌, List, [], ◌∷◌, length, get_or, map, Option, Some, None, refl, sym, ap, ◌∙◌, subst, arith}
 use Rattle.std.specs.Prelude.{slice_get}
 use Rattle.std.specs.Option.{option_map_or}
+use denote.Param.Weighed.{most}
 use Rattle.dp_tree.specs.declared.bundle.Bundle.{Bundle}
 use Rattle.dp_tree.specs.declared.bundle.BundleFile.{BundleFile}
 use Rattle.dp_tree.specs.declared.bundle.FunctionRef.{FunctionRef}
@@ -12,7 +13,7 @@ use Rattle.dp_tree.specs.declared.tree.Arm.{Arm}
 use Rattle.dp_tree.specs.declared.tree.Binding.{Binding}
 use Rattle.dp_tree.specs.declared.tree.Expression.{Expression}
 use Rattle.dp_tree.specs.declared.tree.Function.{Function}
-use Rattle.dp_tree.specs.declared.tree.Place.{Place}
+use Rattle.dp_tree.specs.declared.tree.Place.{Place, size-Place}
 use Rattle.dp_tree.specs.declared.tree.Statement.{Statement}
 use Rattle.dp_tree.specs.declared.tree.StatementKind.{StatementKind}
 use Rattle.dp_tree.specs.declared.tree.StatementKind.TheFolds.{fold-roll-StatementKind, fold_out-Arm, fold_out-Statement}
@@ -115,6 +116,13 @@ sized statement is size = size-statement statement ∙ ap (λ (k : StatementKind
 pub size-arm : (arm : Arm) → arm_size arm ≡ expression_size arm.test + statement_size arm.body + 1
 unfolding kind_size arm_size statement_size
 size-arm arm = fold_out-Arm ℕ ℕ ℕ kind_layer arm_layer statement_layer arm
+
+-- how large arms and places are, all of them
+abbrev pub arms_size : List Arm → ℕ
+arms_size arms = sizes_sum (map arm_size arms)
+
+abbrev pub places_size : List Place → ℕ
+places_size places = most size-Place places
 
 -- ---- lists
 
