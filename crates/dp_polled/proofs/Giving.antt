@@ -20,16 +20,26 @@ bytes_last (q ∷ ps) p =
     ap (λ (l : List ℕ). bytes_in q ++ l) (bytes_last ps p) ∙ sym (append_assoc (bytes_in q) (bytes_of ps) (bytes_in p))
 
 -- nothing is kept
-pub keeps_none : (taken : List Piece) → IsKept taken None 0
-keeps_none taken = record {
+pub keeps_none : (taken : List Piece) (faults : ℕ) → faults ≡ 0 → IsKept taken None 0 faults
+keeps_none taken faults none = record {
   before = bytes_of taken;
   whole = sym (append-nil (bytes_of taken));
   within = omega arith;
+  last = tt;
+  failed = λ some. absurd (omega (arith, none, some));
 }
 
--- a piece that was taken just now
-pub keeps_next : (taken : List Piece) (p : Piece) → IsKept (taken ++ p ∷ []) (Some p) 0
-keeps_next taken p = record { before = bytes_of taken; whole = bytes_last taken p; within = omega arith }
+-- a piece that was taken just now, behind one that was given whole
+pub keeps_next : (taken : List Piece) (kept : Option Piece) (at faults : ℕ) (p : Piece) → is_spent kept at ≡ true →
+    IsKept taken kept at faults → IsKept (taken ++ p ∷ []) (Some p) 0 faults
+keeps_next taken kept at faults p spent k = record {
+  before = bytes_of taken;
+  whole = bytes_last taken p;
+  within = omega arith;
+  last = (taken, refl);
+  failed = λ some. absurd (true≢false
+      (sym spent ∙ ap (λ (o : Option Piece). is_spent o at) (k.failed some)));
+}
 
 -- so many bytes of it were given
 further : (before bytes : List ℕ) (at n : ℕ) →
@@ -39,24 +49,28 @@ further before bytes at n =
     ∙ sym (append_assoc before (take n (drop at bytes)) (drop n (drop at bytes)))
     ∙ ap (λ (l : List ℕ). (before ++ take n (drop at bytes)) ++ l) (drop-drop n at bytes)
 
-keeps_further : (taken : List Piece) (bytes : List ℕ) (at n : ℕ) → at + n ≤ length bytes →
-    IsKept taken (Some (piece.Bytes bytes)) at → IsKept taken (Some (piece.Bytes bytes)) (at + n)
-keeps_further taken bytes at n most k = record {
+keeps_further : (taken : List Piece) (bytes : List ℕ) (at n faults : ℕ) → at + n ≤ length bytes →
+    IsKept taken (Some (piece.Bytes bytes)) at faults → IsKept taken (Some (piece.Bytes bytes)) (at + n) faults
+keeps_further taken bytes at n faults most k = record {
   before = k.before ++ take n (drop at bytes);
   whole = k.whole ∙ further k.before bytes at n;
   within = most;
+  last = k.last;
+  failed = k.failed;
 }
 
-pub keeps_more : (taken : List Piece) (kept : Option Piece) (bytes : List ℕ) (at n : ℕ) →
-    kept ≡ Some (piece.Bytes bytes) → at + n ≤ length bytes → IsKept taken kept at → IsKept taken kept (at + n)
-keeps_more taken kept bytes at n is most k =
-    subst (λ (o : Option Piece). IsKept taken o (at + n)) (sym is)
-    (keeps_further taken bytes at n most (subst (λ (o : Option Piece). IsKept taken o at) is k))
+pub keeps_more : (taken : List Piece) (kept : Option Piece) (bytes : List ℕ) (at n faults : ℕ) →
+    kept ≡ Some (piece.Bytes bytes) → at + n ≤ length bytes → IsKept taken kept at faults →
+    IsKept taken kept (at + n) faults
+keeps_more taken kept bytes at n faults is most k =
+    subst (λ (o : Option Piece). IsKept taken o (at + n) faults) (sym is)
+    (keeps_further taken bytes at n faults most (subst (λ (o : Option Piece). IsKept taken o at faults) is k))
 
 -- no more were given than it has
-pub kept_within : (taken : List Piece) (kept : Option Piece) (bytes : List ℕ) (at : ℕ) →
-    kept ≡ Some (piece.Bytes bytes) → IsKept taken kept at → at ≤ length bytes
-kept_within taken kept bytes at is k = (subst (λ (o : Option Piece). IsKept taken o at) is k).within
+pub kept_within : (taken : List Piece) (kept : Option Piece) (bytes : List ℕ) (at faults : ℕ) →
+    kept ≡ Some (piece.Bytes bytes) → IsKept taken kept at faults → at ≤ length bytes
+kept_within taken kept bytes at faults is k =
+    (subst (λ (o : Option Piece). IsKept taken o at faults) is k).within
 
 -- what was given is what stands before the rest
 before_is : (all before after : List ℕ) → all ≡ before ++ after → take (length all - length after) all ≡ before
@@ -65,7 +79,7 @@ before_is all before after e =
     ∙ take_at before after (length (before ++ after) - length after)
     (let sum = length-append before after in omega arith)
 
-pub given_is : (v : State) (k : IsKept v.seat.taken v.kept v.at) → given v ≡ k.before
+pub given_is : (v : State) (k : IsKept v.seat.taken v.kept v.at v.faults) → given v ≡ k.before
 given_is v k = before_is (bytes_of v.seat.taken) k.before (rest v.kept v.at) k.whole
 
 -- nothing is left of a piece that is spent
@@ -158,10 +172,11 @@ goes_on_and_on u v w p q = record {
 
 -- bytes of the piece that is kept are given
 pub moved_given : (v : State) (bytes : List ℕ) (n : ℕ) → v.kept ≡ Some (piece.Bytes bytes) →
-    IsKept v.seat.taken v.kept v.at → given (record v { at = v.at + n }) ≡ given v ++ take n (drop v.at bytes)
+    IsKept v.seat.taken v.kept v.at v.faults →
+    given (record v { at = v.at + n }) ≡ given v ++ take n (drop v.at bytes)
 moved_given v bytes n is k =
-    let old : IsKept v.seat.taken (Some (piece.Bytes bytes)) v.at =
-    subst (λ (o : Option Piece). IsKept v.seat.taken o v.at) is k in
+    let old : IsKept v.seat.taken (Some (piece.Bytes bytes)) v.at v.faults =
+    subst (λ (o : Option Piece). IsKept v.seat.taken o v.at v.faults) is k in
     let whole = old.whole ∙ further old.before bytes v.at n in
     let first : given v ≡ old.before =
     ap (λ (o : Option Piece). take (length (bytes_of v.seat.taken) - length (rest o v.at)) (bytes_of v.seat.taken)) is

@@ -1,5 +1,5 @@
 -- A post as a Polled: which bytes it has given, and what a look at it comes to.
-use Rattle.std.specs.Prelude.{◌≡◌, ℕ, ◌+◌, ◌-◌, ◌≤◌, Bool, true, false, ◌&&◌, ◌++◌, List, [], ◌∷◌, length, take, drop, min, nat_le, nat_lt, replicate, Option, None, Some, Result, Ok, Err, IsErr}
+use Rattle.std.specs.Prelude.{◌≡◌, ℕ, ◌+◌, ◌-◌, ◌<◌, ◌≤◌, Bool, true, false, ◌&&◌, ◌++◌, List, [], ◌∷◌, length, take, drop, min, nat_le, nat_lt, replicate, Option, None, Some, Result, Ok, Err, IsErr}
 use mathlib.Core.List.{IsPrefix}
 use Rattle.dp_outside.specs.Fakes.{one_more}
 use Rattle.dp_polled.specs.declared.piece.Piece.{Piece}
@@ -57,12 +57,20 @@ is_spent (Some (piece.Bytes bytes)) at = nat_le (length bytes) at
 is_spent (Some piece.End) at = false
 is_spent (Some piece.Failed) at = false
 
--- The piece that it keeps is the last that it took, as far as there are bytes of it to be given,
--- and no more bytes of it were given than it has.
-pub record IsKept (taken : List Piece) (kept : Option Piece) (at : ℕ) : Type 0 where
+-- it keeps the last piece that it took, if any
+abbrev pub IsLast : Option Piece → List Piece → Type 0
+IsLast None taken = Unit {0}
+IsLast (Some p) taken = (front : List Piece) × (taken ≡ front ++ p ∷ [])
+
+-- The piece that it keeps is the last that it took. What is still to be given of it ends the bytes
+-- of all that it took, and no more of it was given than it has. It has failed only where that piece
+-- is a failure.
+pub record IsKept (taken : List Piece) (kept : Option Piece) (at faults : ℕ) : Type 0 where
   pub before : List ℕ
   pub whole : bytes_of taken ≡ before ++ rest kept at
   pub within : at ≤ length (kept_bytes kept)
+  pub last : IsLast kept taken
+  pub failed : 0 < faults → kept ≡ Some piece.Failed
 
 -- ---- a look
 

@@ -1,6 +1,6 @@
 //! A Polled in memory.
 ghost use Rattle.std.specs.Prelude.{◌≡◌, ◌+◌, ◌-◌, ◌^◌, ◌<◌, ◌≤◌, ◌++◌, ◌||◌, [], Some, true, false, length, min, take};
-ghost use Rattle.std.specs.Prelude.{IfOk, IsOk, IsTrue, OnErr, OnOk, is_err, ℕ};
+ghost use Rattle.std.specs.Prelude.{IfOk, IsOk, IsTrue, None, OnErr, OnOk, is_err, ℕ};
 ghost use Rattle.dp_outside.specs.Causes.{HasCause};
 ghost use Rattle.dp_outside.specs.Fakes.{after_call, first_plan, is_due};
 ghost use Rattle.dp_polled.specs.Arrivals.{arrivals_of, bytes_of, first_bytes, is_there, left_by, less, look_at, next};
@@ -104,6 +104,8 @@ impl Polled for ListPolled {
     ghost given = { λ p. Some p.coming.given };
 
     ghost over = { λ p. Some p.over };
+
+    ghost post = { λ _. None };
 
     ghost looks = { λ p. p.looks };
 

@@ -3,6 +3,7 @@ ghost use Rattle.std.specs.Prelude.{◌≡◌, ◌<◌, ◌≤◌, ◌+◌, ◌|
 ghost use Rattle.std.specs.Prelude.{IfOk, IsSome, IsTrue, OnOk};
 ghost use Rattle.std.specs.Io.KnownBytes.{IsAtEnd, append_known, prepend_known};
 ghost use Rattle.std.specs.declared.option.Option.{Option};
+ghost use Rattle.atomic_table.specs.Seated.{TableId};
 ghost use Rattle.dp_outside.specs.Causes.{HasCause};
 ghost use Rattle.dp_polled.specs.Polls.{came, count_of, look_ends, look_is_over, wait_ends, wait_is_over, waited};
 
@@ -30,6 +31,9 @@ pub trait Polled {
     /// Whether a call has answered that the input is at its end or has failed, where it tells that.
     ghost over: { Self → Option Bool };
 
+    /// The post that its bytes come by, where they come by one.
+    ghost post: { Self → Option TableId };
+
     /// How often it was looked at.
     ghost looks: { Self → ℕ };
 
@@ -48,6 +52,7 @@ pub trait Polled {
         ensures given { given self.new ≡ append_known (given self.old) (came result buf.new) }
         ensures end { IsTrue (look_ends result) → IsAtEnd (left self.new) }
         ensures over { over self.new ≡ option_map (λ before. before || look_is_over result) (over self.old) }
+        ensures post { post self.new ≡ post self.old }
         ensures looks { looks self.new ≡ looks self.old + 1 }
         ensures held { OnOk result (faults self.new ≡ faults self.old) }
         ensures cause { HasCause (faults self.old) (faults self.new) result };
@@ -63,6 +68,7 @@ pub trait Polled {
         ensures end { IsTrue (wait_ends result (length buf.new)) → IsAtEnd (left self.new) }
         ensures over { over self.new
             ≡ option_map (λ before. before || wait_is_over result (length buf.new)) (over self.old) }
+        ensures post { post self.new ≡ post self.old }
         ensures looks { looks self.new ≡ looks self.old }
         ensures held { OnOk result (faults self.new ≡ faults self.old) }
         ensures cause { HasCause (faults self.old) (faults self.new) result };

@@ -5,7 +5,7 @@ ghost use mathlib.Core.Path.{sym};
 ghost use Rattle.dp_outside.specs.Causes.{HasCause};
 ghost use Rattle.dp_polled.specs.Polls.{came, count_of, look_is_over, wait_is_over, waited};
 ghost use Rattle.dp_polled.specs.Posted.{Answers, Asked, HasOnlyTaken, Tried, Waited, given, is_over, is_spent, moved};
-ghost use Rattle.dp_polled.specs.Posted.{with_look};
+ghost use Rattle.dp_polled.specs.Posted.{IsKept, with_look};
 
 use crate::{Look, Piece, Polled, Post, PostSeat};
 use dp_outside::{Failed, Faults, GhostList};
@@ -43,7 +43,7 @@ impl<'a, R> Model for Posted<'a, R> {
     } };
 
     ghost invariant = { λ p. (p.seat.post ≡ p.post.now) × (p.seat.may_take ≡ true)
-        × IsKept p.seat.taken p.kept p.at };
+        × IsKept p.seat.taken p.kept p.at p.faults };
 }
 
 impl<'a, R> Posted<'a, R> {
@@ -68,6 +68,7 @@ impl<'a, R> Posted<'a, R> {
     pub fn end(self) -> PostSeat
         ensures seat { result ≡ self.entry.seat }
         ensures right { result.may_take ≡ true }
+        ensures kept { IsKept result.taken self.entry.kept self.entry.at self.entry.faults }
     {
         let Posted {
             rt: _,
@@ -161,6 +162,8 @@ impl<'a, R: Wait> Polled for Posted<'a, R> {
 
     ghost over = { λ p. Some (is_over p.kept) };
 
+    ghost post = { λ p. Some p.seat.post };
+
     ghost looks = { λ p. p.looks };
 
     ghost faults = { λ p. p.faults };
@@ -172,6 +175,7 @@ impl<'a, R: Wait> Polled for Posted<'a, R> {
         ensures some { (n : ℕ) → IfOk result (λ look. look ≡ Look.Bytes n → 0 < length buf.new → 1 ≤ n) }
         ensures given { given self.new ≡ given self.old ++ came result buf.new }
         ensures over { is_over self.new.kept ≡ (is_over self.old.kept || look_is_over result) }
+        ensures post { self.new.seat.post ≡ self.old.seat.post }
         ensures looks { self.new.looks ≡ self.old.looks + 1 }
         ensures held { OnOk result (self.new.faults ≡ self.old.faults) }
         ensures cause { HasCause self.old.faults self.new.faults result }
@@ -187,6 +191,7 @@ impl<'a, R: Wait> Polled for Posted<'a, R> {
         ensures bound { IfOk result (λ count. count ≤ length buf.new) }
         ensures given { given self.new ≡ given self.old ++ waited result buf.new }
         ensures over { is_over self.new.kept ≡ (is_over self.old.kept || wait_is_over result (length buf.new)) }
+        ensures post { self.new.seat.post ≡ self.old.seat.post }
         ensures looks { self.new.looks ≡ self.old.looks }
         ensures held { OnOk result (self.new.faults ≡ self.old.faults) }
         ensures cause { HasCause self.old.faults self.new.faults result }

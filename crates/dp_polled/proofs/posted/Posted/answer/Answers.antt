@@ -9,13 +9,13 @@ use Rattle.dp_polled.proofs.posted.Posted.answer.Goals as goal
 pub slice_bounds-rest-count : goal.slice_bounds-rest-count
 slice_bounds-rest-count g c =
     let is : c.self.inside.kept ≡ Some (piece.Bytes c.in-Some-Bytes.bytes) = search rules in
-    let within = kept_within _ _ c.in-Some-Bytes.bytes _ is c.self.invariant.2 in
+    let within = kept_within _ _ c.in-Some-Bytes.bytes _ _ is c.self.invariant.2 in
     let same = ap (λ (l : List ℕ). length l) c.as_slice.ensures in omega (arith, within, same)
 
 pub slice_bounds-rest-start : goal.slice_bounds-rest-start
 slice_bounds-rest-start g c =
     let is : c.self.inside.kept ≡ Some (piece.Bytes c.in-Some-Bytes.bytes) = search rules in
-    let within = kept_within _ _ c.in-Some-Bytes.bytes _ is c.self.invariant.2 in
+    let within = kept_within _ _ c.in-Some-Bytes.bytes _ _ is c.self.invariant.2 in
     let same = ap (λ (l : List ℕ). length l) c.as_slice.ensures in
     let starts : c.self.inside.at ≤ length c.as_slice.result.now = omega (arith, within, same) in starts
 
@@ -24,7 +24,7 @@ invariant_of-self g c =
     let is : c.self.inside.kept ≡ Some (piece.Bytes c.in-Some-Bytes.bytes) = search rules in
     let s = c.self.inside in
     let slice = c.as_slice.result.now in
-    let within = kept_within _ _ c.in-Some-Bytes.bytes _ is c.self.invariant.2 in
+    let within = kept_within _ _ c.in-Some-Bytes.bytes _ _ is c.self.invariant.2 in
     let same = ap (λ (l : List ℕ). length l) c.as_slice.ensures in
     let whole = ap (λ (l : List ℕ). length l) (take_rest slice s.at) in
     let size = length-drop s.at slice in
@@ -32,7 +32,7 @@ invariant_of-self g c =
     omega (arith, within, same, whole, size, c.min-count.ensures) in (
       c.self.invariant.0,
       c.self.invariant.1,
-      keeps_more s.seat.taken s.kept c.in-Some-Bytes.bytes s.at c.min-count.result is most
+      keeps_more s.seat.taken s.kept c.in-Some-Bytes.bytes s.at c.min-count.result s.faults is most
           c.self.invariant.2,
     )
 

@@ -6,11 +6,13 @@ use Rattle.dp_polled.proofs.posted.Posted.ask.Goals as goal
 
 pub invariant_of-self : goal.invariant_of-self
 invariant_of-self g c =
-    let s = c.self.inside in (
+    let s = c.self.inside in
+    let spent : is_spent s.kept s.at ≡ true =
+    ap (λ (v : State). is_spent v.kept v.at) c.self.view_is ∙ sym c.is_spent.ensures ∙ c.if-not-is_spent.false in (
       ap (λ (k : Known). k.post) c.in-Some.ensures ∙ c.self.invariant.0,
       ap (λ (k : Known). k.may_take) c.in-Some.ensures ∙ c.self.invariant.1,
-      subst (λ (k : Known). IsKept k.taken (Some c.in-Some.piece) 0) (sym c.in-Some.ensures)
-          (keeps_next s.seat.taken c.in-Some.piece),
+      subst (λ (k : Known). IsKept k.taken (Some c.in-Some.piece) 0 s.faults) (sym c.in-Some.ensures)
+          (keeps_next s.seat.taken s.kept s.at s.faults c.in-Some.piece spent c.self.invariant.2),
     )
 
 pub returns-in-Some-clause-given : goal.returns-in-Some-clause-given

@@ -1,4 +1,5 @@
 use Rattle.std.proofs.Common.{Bool, List, ℕ, Some, ap, refl}
+use Rattle.atomic_table.specs.Seated.{TableId}
 use Rattle.dp_polled.proofs.posted.PostedPolled.TheImpl.Goals as goal
 
 pub wait-tells : goal.wait-tells
@@ -10,6 +11,7 @@ wait-tells g c =
       given = ap (λ (l : List ℕ). Some l) e.given;
       end = λ _. tt;
       over = ap (λ (b : Bool). Some b) e.over;
+      post = ap (λ (z : TableId). Some z) e.post;
       looks = e.looks;
       held = e.held;
       cause = e.cause;
