@@ -7,8 +7,8 @@ use Rattle.dp_command.specs.declared.line.Line.{Line}
 use Rattle.dp_engine.specs.Answers.{Turn}
 use Rattle.dp_engine.specs.Responses.{fault_in}
 use Rattle.dp_engine.specs.declared.session.Report.{Report}
-use Rattle.dp_dap.specs.declared.effects.Refusal.{Refusal}
-use Rattle.dp_dap.specs.declared.effects.Refusal.TheVariants as refusal
+use Rattle.dp_dap_messages.specs.declared.effects.Refusal.{Refusal}
+use Rattle.dp_dap_messages.specs.declared.effects.Refusal.TheVariants as refusal
 use Rattle.dp_dap.specs.declared.effects.Unanswered.{Unanswered}
 use Rattle.dp_dap.specs.declared.effects.Unanswered.TheVariants.{Refused, Memory}
 use Rattle.dp_dap.specs.Answers.{and_then, replied, turned, unless_fault}

@@ -11,21 +11,21 @@ use Rattle.dp_command.specs.declared.line.Line.{Line}
 use Rattle.dp_engine.specs.Answers.{Turn, turn, turn_with}
 use Rattle.dp_engine.specs.Session.{State, written_between}
 use Rattle.dp_engine.specs.declared.session.Report.{Report}
-use Rattle.dp_dap.specs.declared.arguments.Asked.{Asked}
+use Rattle.dp_dap_messages.specs.declared.arguments.Asked.{Asked}
 use Rattle.dp_dap.specs.declared.effects.Effect.{Effect}
-use Rattle.dp_dap.specs.declared.effects.News.{News}
-use Rattle.dp_dap.specs.declared.effects.News.TheVariants as news
-use Rattle.dp_dap.specs.declared.effects.Refusal.{Refusal}
-use Rattle.dp_dap.specs.declared.effects.Refusal.TheVariants as refusal
-use Rattle.dp_dap.specs.declared.effects.StopReason.{StopReason}
+use Rattle.dp_dap_messages.specs.declared.effects.News.{News}
+use Rattle.dp_dap_messages.specs.declared.effects.News.TheVariants as news
+use Rattle.dp_dap_messages.specs.declared.effects.Refusal.{Refusal}
+use Rattle.dp_dap_messages.specs.declared.effects.Refusal.TheVariants as refusal
+use Rattle.dp_dap_messages.specs.declared.effects.StopReason.{StopReason}
 use Rattle.dp_dap.specs.declared.effects.Unanswered.{Unanswered}
 use Rattle.dp_dap.specs.declared.effects.Unanswered.TheVariants.{Refused, Memory}
-use Rattle.dp_dap.specs.declared.lines.Place.{Place}
+use Rattle.dp_dap_messages.specs.declared.lines.Place.{Place}
 use Rattle.dp_dap.specs.Answers as spec
 use Rattle.dp_dap.specs.Known.{Known}
-use Rattle.dp_dap.specs.Lines.{contexts_line, eval_line, frame_line, going_line}
-use Rattle.dp_dap.specs.Messages.{list, result_body}
-use Rattle.dp_dap.specs.Values as spec_values
+use Rattle.dp_dap_messages.specs.Lines.{contexts_line, eval_line, frame_line, going_line}
+use Rattle.dp_dap_messages.specs.Messages.{list, result_body}
+use Rattle.dp_dap_messages.specs.Values as spec_values
 use Rattle.dp_dap.specs.inner.Effects.{Advances, DidSo, IsBare, IsNotReplied, IsReplied, Looks, Refuses, Settles, effect_of}
 use Rattle.dp_dap.proofs.AskLaws.{behind_refused, not_replied, replied_is}
 use Rattle.dp_dap.proofs.TurnLaws.{contexts_stay, frame_stays}
@@ -134,8 +134,8 @@ listed_full more shown known full =
 -- what was looked at is listed
 pub list_looked : (result : Result Turn Refusal) (shown : Turn → Result spec.Effect Refusal) (report : Report)
     (old mid new : Known) (more places : List Place) (told : Data) (effect : Effect) (body : Value)
-    → Looks result report old mid → shown (turn_with report mid.session) ≡ spec.with_places more told old → places ≡ more
-    → nat_le (length mid.places + length more) spec.reference_limit ≡ true → IsBare (Some body) effect
+    → Looks result report old mid → shown (turn_with report mid.session) ≡ spec.with_places more told old
+    → places ≡ more → nat_le (length mid.places + length more) spec.reference_limit ≡ true → IsBare (Some body) effect
     → view body ≡ told → new ≡ (record mid { places = mid.places ++ places })
     → DidSo (spec.and_then shown result) effect new
 list_looked result shown report old mid new more places told effect body looks lists are fits bare seen same =

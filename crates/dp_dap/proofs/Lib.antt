@@ -1,6 +1,3 @@
-pub mod ArgumentLaws
-pub mod NulLaws
-pub mod MessageLaws
 pub mod FloatLaws
 pub mod SentLaws
 pub mod SetLaws

@@ -8,27 +8,27 @@ use Rattle.dp_command.specs.declared.command.Continuation.{Continuation}
 use Rattle.dp_command.specs.declared.command.Continuation.TheVariants as going
 use Rattle.dp_engine.specs.Answers.{Turn}
 use Rattle.dp_engine.specs.Session.{written_between}
-use Rattle.dp_dap.specs.declared.arguments.Asked.{Asked}
-use Rattle.dp_dap.specs.declared.arguments.Hits.{Hits}
-use Rattle.dp_dap.specs.declared.arguments.Hits.TheVariants.{Any, On, Bad}
-use Rattle.dp_dap.specs.declared.arguments.Wish.{Wish}
-use Rattle.dp_dap.specs.declared.arguments.Wish.TheVariants as wish
-use Rattle.dp_dap.specs.declared.effects.Refusal.{Refusal}
-use Rattle.dp_dap.specs.declared.effects.Refusal.TheVariants as refusal
-use Rattle.dp_dap.specs.declared.effects.StopReason.{StopReason}
-use Rattle.dp_dap.specs.declared.effects.StopReason.TheVariants as reason
-use Rattle.dp_dap.specs.declared.lines.Place.{Place}
-use Rattle.dp_dap.specs.declared.table.RequestName.{RequestName}
-use Rattle.dp_dap.specs.declared.table.Stage.{Stage}
-use Rattle.dp_dap.specs.declared.table.Stage.TheVariants as stage
+use Rattle.dp_dap_messages.specs.declared.arguments.Asked.{Asked}
+use Rattle.dp_dap_messages.specs.declared.arguments.Hits.{Hits}
+use Rattle.dp_dap_messages.specs.declared.arguments.Hits.TheVariants.{Any, On, Bad}
+use Rattle.dp_dap_messages.specs.declared.arguments.Wish.{Wish}
+use Rattle.dp_dap_messages.specs.declared.arguments.Wish.TheVariants as wish
+use Rattle.dp_dap_messages.specs.declared.effects.Refusal.{Refusal}
+use Rattle.dp_dap_messages.specs.declared.effects.Refusal.TheVariants as refusal
+use Rattle.dp_dap_messages.specs.declared.effects.StopReason.{StopReason}
+use Rattle.dp_dap_messages.specs.declared.effects.StopReason.TheVariants as reason
+use Rattle.dp_dap_messages.specs.declared.lines.Place.{Place}
+use Rattle.dp_dap_messages.specs.declared.table.RequestName.{RequestName}
+use Rattle.dp_dap_messages.specs.declared.table.Stage.{Stage}
+use Rattle.dp_dap_messages.specs.declared.table.Stage.TheVariants as stage
 use Rattle.dp_dap.specs.Answers as spec
 use Rattle.dp_dap.specs.Answers.{Effect, answer}
-use Rattle.dp_dap.specs.Arguments.{wish_of}
+use Rattle.dp_dap_messages.specs.Arguments.{wish_of}
 use Rattle.dp_dap.specs.Known.{Known}
-use Rattle.dp_dap.specs.Lines.{eval_line, frame_line, going_line, place_line, set_line, stack_line}
-use Rattle.dp_dap.specs.Messages.{list, one_member}
-use Rattle.dp_dap.specs.Table.{allows, name_of}
-use Rattle.dp_dap.specs.Values.{context_places, places_of, scopes, variables}
+use Rattle.dp_dap_messages.specs.Lines.{eval_line, frame_line, going_line, place_line, set_line, stack_line}
+use Rattle.dp_dap_messages.specs.Messages.{list, one_member}
+use Rattle.dp_dap_messages.specs.Table.{allows, name_of}
+use Rattle.dp_dap_messages.specs.Values.{context_places, places_of, scopes, variables}
 use Rattle.dp_dap.proofs.FloatLaws.{evaluated_of, stack_of}
 
 -- so many messages were sent, behind it as before

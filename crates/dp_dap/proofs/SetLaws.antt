@@ -10,13 +10,13 @@ use Rattle.dp_command.specs.declared.line.Line.{Line}
 use Rattle.dp_engine.specs.Answers.{turn_with}
 use Rattle.dp_engine.specs.declared.session.Report.{Report}
 use Rattle.dp_engine.specs.Session.{State}
-use Rattle.dp_dap.specs.declared.arguments.Asked.{Asked}
-use Rattle.dp_dap.specs.declared.effects.Refusal.{Refusal}
+use Rattle.dp_dap_messages.specs.declared.arguments.Asked.{Asked}
+use Rattle.dp_dap_messages.specs.declared.effects.Refusal.{Refusal}
 use Rattle.dp_dap.specs.declared.effects.Unanswered.{Unanswered}
 use Rattle.dp_dap.specs.declared.effects.Unanswered.TheVariants.{Refused}
 use Rattle.dp_dap.specs.Answers as spec
 use Rattle.dp_dap.specs.Known.{Known}
-use Rattle.dp_dap.specs.Messages.{unverified, verified}
+use Rattle.dp_dap_messages.specs.Messages.{unverified, verified}
 use Rattle.dp_dap.specs.inner.Effects.{IsNotReplied, IsReplied}
 use Rattle.dp_dap.proofs.AskLaws.{not_replied, replied_is}
 

@@ -23,8 +23,8 @@ use Rattle.dp_engine.specs.Refusals.{refusal, refusal_of_line}
 use Rattle.dp_engine.specs.Responses.{fault_in}
 use Rattle.dp_engine.specs.Session.{State}
 use Rattle.dp_engine.proofs.RefusalLaws.{refused_exactly}
-use Rattle.dp_dap.specs.declared.lines.Place.{Place}
-use Rattle.dp_dap.specs.Lines.{contexts_line, frame_line, look_line, place_line, stack_line}
+use Rattle.dp_dap_messages.specs.declared.lines.Place.{Place}
+use Rattle.dp_dap_messages.specs.Lines.{contexts_line, frame_line, look_line, place_line, stack_line}
 
 -- ---- what is refused
 

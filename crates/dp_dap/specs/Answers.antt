@@ -29,30 +29,30 @@ use Rattle.dp_packet.specs.declared.property.Property.{Property}
 use Rattle.dp_state.specs.declared.moments.Outcome.{Outcome}
 use Rattle.dp_state.specs.declared.moments.Outcome.TheVariants.{Done, Exit, Fatal, Bound}
 use Rattle.dp_wire.specs.Frames.{command_limit}
-use Rattle.dp_dap.specs.declared.arguments.Asked.{Asked}
-use Rattle.dp_dap.specs.declared.arguments.Hits.{Hits}
-use Rattle.dp_dap.specs.declared.arguments.Hits.TheVariants.{Any, On, Bad}
-use Rattle.dp_dap.specs.declared.arguments.Wish.{Wish}
-use Rattle.dp_dap.specs.declared.arguments.Wish.TheVariants as wish
+use Rattle.dp_dap_messages.specs.declared.arguments.Asked.{Asked}
+use Rattle.dp_dap_messages.specs.declared.arguments.Hits.{Hits}
+use Rattle.dp_dap_messages.specs.declared.arguments.Hits.TheVariants.{Any, On, Bad}
+use Rattle.dp_dap_messages.specs.declared.arguments.Wish.{Wish}
+use Rattle.dp_dap_messages.specs.declared.arguments.Wish.TheVariants as wish
 use Rattle.dp_dap.specs.declared.breakpoints.Kept.{Kept}
-use Rattle.dp_dap.specs.declared.effects.News.{News}
-use Rattle.dp_dap.specs.declared.effects.News.TheVariants as news
-use Rattle.dp_dap.specs.declared.effects.Refusal.{Refusal}
-use Rattle.dp_dap.specs.declared.effects.Refusal.TheVariants as refusal
-use Rattle.dp_dap.specs.declared.effects.StopReason.{StopReason}
-use Rattle.dp_dap.specs.declared.effects.StopReason.TheVariants as reason
-use Rattle.dp_dap.specs.declared.lines.Place.{Place}
-use Rattle.dp_dap.specs.declared.table.RequestName.{RequestName}
-use Rattle.dp_dap.specs.declared.table.RequestName.TheVariants as name
-use Rattle.dp_dap.specs.declared.table.Stage.{Stage}
-use Rattle.dp_dap.specs.declared.table.Stage.TheVariants as stage
-use Rattle.dp_dap.specs.Arguments.{wish_of}
+use Rattle.dp_dap_messages.specs.declared.effects.News.{News}
+use Rattle.dp_dap_messages.specs.declared.effects.News.TheVariants as news
+use Rattle.dp_dap_messages.specs.declared.effects.Refusal.{Refusal}
+use Rattle.dp_dap_messages.specs.declared.effects.Refusal.TheVariants as refusal
+use Rattle.dp_dap_messages.specs.declared.effects.StopReason.{StopReason}
+use Rattle.dp_dap_messages.specs.declared.effects.StopReason.TheVariants as reason
+use Rattle.dp_dap_messages.specs.declared.lines.Place.{Place}
+use Rattle.dp_dap_messages.specs.declared.table.RequestName.{RequestName}
+use Rattle.dp_dap_messages.specs.declared.table.RequestName.TheVariants as name
+use Rattle.dp_dap_messages.specs.declared.table.Stage.{Stage}
+use Rattle.dp_dap_messages.specs.declared.table.Stage.TheVariants as stage
+use Rattle.dp_dap_messages.specs.Arguments.{wish_of}
 use Rattle.dp_dap.specs.Known.{Known}
-use Rattle.dp_dap.specs.Lines.{contexts_line, eval_line, feature_line, finish_line, frame_line, going_line, place_line, remove_line, set_line, stack_line}
-use Rattle.dp_dap.specs.Messages.{capabilities, frames_body, list, news_events, numbered, one_member, one_thread, output_events, refused, result_body, success, unverified, verified}
-use Rattle.dp_dap.specs.Table.{allows, name_of}
+use Rattle.dp_dap_messages.specs.Lines.{contexts_line, eval_line, feature_line, finish_line, frame_line, going_line, place_line, remove_line, set_line, stack_line}
+use Rattle.dp_dap_messages.specs.Messages.{capabilities, frames_body, list, news_events, numbered, one_member, one_thread, output_events, refused, result_body, success, unverified, verified}
+use Rattle.dp_dap_messages.specs.Table.{allows, name_of}
 use Rattle.dp_view.specs.Children.{properties_in}
-use Rattle.dp_dap.specs.Values.{context_places, frame, places_of, scopes, some_of, value_text, variables}
+use Rattle.dp_dap_messages.specs.Values.{context_places, frame, places_of, scopes, some_of, value_text, variables}
 
 -- what a request that is not refused leads to: the body of its response, what the program wrote,
 -- what became of it, what the gateway knows then, and how it has ended, if it has
@@ -166,8 +166,8 @@ configured known = start known.launched true (record known { configured = true }
 
 abbrev pub continued : Continuation → Known → Effect
 continued going.Run known =
-    gone_on going.Run reason.Breakpoint (Some (one_member (codes "allThreadsContinued") (boolean true)))
-    known
+    gone_on going.Run reason.Breakpoint
+    (Some (one_member (codes "allThreadsContinued") (boolean true))) known
 continued mode known = gone_on mode reason.Step None known
 
 -- ---- breakpoints

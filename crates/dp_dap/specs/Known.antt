@@ -4,9 +4,9 @@ use Rattle.dp_tree.specs.declared.bundle.Bundle.{Bundle}
 use Rattle.dp_engine.specs.declared.session.SessionEnd.{SessionEnd}
 use Rattle.dp_engine.specs.Session as session
 use Rattle.dp_dap.specs.declared.breakpoints.Kept.{Kept}
-use Rattle.dp_dap.specs.declared.lines.Place.{Place}
-use Rattle.dp_dap.specs.declared.table.Stage.{Stage}
-use Rattle.dp_dap.specs.declared.table.Stage.TheVariants.{New}
+use Rattle.dp_dap_messages.specs.declared.lines.Place.{Place}
+use Rattle.dp_dap_messages.specs.declared.table.Stage.{Stage}
+use Rattle.dp_dap_messages.specs.declared.table.Stage.TheVariants.{New}
 
 pub record Known : Type 0 where
   pub stage : Stage

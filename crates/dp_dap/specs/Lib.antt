@@ -1,9 +1,4 @@
-pub mod Table
-pub mod Arguments
-pub mod Lines
-pub mod Values
 pub mod Known
-pub mod Messages
 pub mod Answers
 pub mod Dap
 pub mod Service

@@ -1,3 +1,2 @@
-pub mod Lettered
 pub mod Effects
 pub mod Exchanges

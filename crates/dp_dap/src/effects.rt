@@ -3,39 +3,11 @@
 ghost use Rattle.std.specs.Prelude.{◌≡◌};
 ghost use Rattle.dp_dap.specs.declared.effects.Unanswered.TheVariants.{Memory};
 
+use dp_dap_messages::{News, Refusal};
 use dp_engine::SessionEnd;
 use dp_value::{Bytes, Items};
 use serde_json::Value;
 use std::alloc::{AllocError, AllocFailed};
-
-/// Why the program stands.
-#[derive(Clone, Copy, Debug, PartialEq, Eq)]
-pub enum StopReason {
-    Entry,
-    Breakpoint,
-    Step,
-}
-
-/// What became of the program, or of the gateway, behind a response.
-#[derive(Clone, Copy, Debug, PartialEq, Eq)]
-pub enum News {
-    Nothing,
-    Initialized,
-    Stopped(StopReason),
-    /// The program has ended, with this code.
-    Ended(u8),
-}
-
-/// Why a request is refused.
-#[derive(Clone, Copy, Debug, PartialEq, Eq)]
-pub enum Refusal {
-    Unsupported,
-    NotNow,
-    BadArguments,
-    TooManyReferences,
-    /// The session refused a command with this code.
-    Code(u16),
-}
 
 /// What a request that is not refused leads to.
 #[derive(Drop)]

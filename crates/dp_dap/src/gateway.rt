@@ -12,22 +12,22 @@ ghost use Rattle.dp_command.specs.Canonical.{canonical};
 ghost use Rattle.dp_wire.specs.Frames.{IsCommand, has_no_nul};
 ghost use Rattle.dp_dap.specs.Answers as spec;
 ghost use Rattle.dp_dap.specs.Dap.{is_request, reply};
-ghost use Rattle.dp_dap.specs.Lines.{feature_line, frame_line, going_line, set_line};
-ghost use Rattle.dp_dap.specs.Messages.{verified};
-ghost use Rattle.dp_dap.specs.inner.Effects.{Answers, DidSo, HasNoFloat, IsBare, IsNotReplied, IsReplied, Looks};
+ghost use Rattle.dp_dap_messages.specs.Lines.{feature_line, frame_line, going_line, set_line};
+ghost use Rattle.dp_dap_messages.specs.Messages.{HasNoFloat, verified};
+ghost use Rattle.dp_dap.specs.inner.Effects.{Answers, DidSo, IsBare, IsNotReplied, IsReplied, Looks};
 ghost use Rattle.dp_dap.specs.inner.Effects.{Advances, Refuses, Settles, effect_of};
 
-use crate::arguments::{Asked, Hits, Wish, read_wish};
 use crate::breakpoints::{Kept, id_in, is_of};
-use crate::effects::{DapAnswer, Effect, News, Refusal, StopReason, Unanswered};
-use crate::lines::Place;
+use crate::effects::{DapAnswer, Effect, Unanswered};
 use crate::replies::{
     code_of, contexts_in, fault_of, has_ended, held_at, result_in, shown_in, stacks_in,
 };
-use crate::table::{RequestName, Stage};
-use crate::{lines, messages, news, shown};
 use dp_bodies::{DapError, DapRequest, request_of};
 use dp_command::Continuation;
+use dp_dap_messages::{
+    Asked, Hits, News, Place, Refusal, RequestName, Stage, StopReason, Wish, lines, messages, news,
+    read_wish, shown,
+};
 use dp_engine::{Report, Session, SessionEnd, Steps};
 use dp_tree::Bundle;
 use dp_value::{Bytes, Items, Memory};
@@ -185,7 +185,7 @@ impl<'a> Gateway<'a> {
         ensures request { OnOk result (is_request text.now ≡ true) }
         ensures refused { result ≡ Err error.NotRequest → (is_request text.now ≡ false) × (self.new ≡ self.old) }
         ensures fails { result ≡ Err error.Memory → self.new.failed ≡ true }
-        ensures stays { OnOk result (self.old.failed ≡ false) }
+        ensures for_good { self.old.failed ≡ true → result ≡ Err error.Memory }
     {
         if self.failed {
             return Err(DapError::Memory);
@@ -377,7 +377,7 @@ impl<'a> Gateway<'a> {
     }
 
     /// Opens the session: arrays and texts are shown whole.
-    #[tactic(auto, using(crate::proofs::NulLaws::children_sent, crate::proofs::NulLaws::data_sent))]
+    #[tactic(auto, using(dp_dap_messages::proofs::NulLaws::children_sent, dp_dap_messages::proofs::NulLaws::data_sent))]
     fn initialize<L: Ledger>(&mut self, steps: &mut Steps<L>) -> Result<Effect, Memory>
         ensures { IfOk result (λ effect. DidSo (Ok (spec.initialized self.old)) effect self.new) }
     {

@@ -2,12 +2,13 @@
 
 ghost use Rattle.std.specs.Prelude.{◌≡◌, IfOk};
 ghost use Rattle.dp_engine.specs.Responses.{fault_in};
+ghost use Rattle.dp_packet.specs.declared.property.Shape.TheViews.{out-Shape};
+ghost use Rattle.dp_view.specs.Children.{entries_in};
 ghost use Rattle.dp_dap.specs.Answers as spec;
 
-use crate::lines::Place;
-use crate::shown;
+use dp_dap_messages::{Place, shown};
 use dp_engine::{Phase, SessionEnd};
-use dp_packet::{Body, Property, StackLine};
+use dp_packet::{Body, Property, Shape, StackLine};
 use dp_state::Outcome;
 use dp_value::{Bytes, Memory};
 use std::alloc::Global;
@@ -52,13 +53,28 @@ pub(crate) fn shown_in(body: &Body) -> &[Property]
     }
 }
 
+/// The entries of an array; none of another value.
+fn entries_of(shape: &Shape) -> &[Property]
+    ensures { result.now ≡ entries_in (out-Shape shape.now) }
+{
+    match shape {
+        Shape::Array {
+            count: _,
+            page: _,
+            pagesize: _,
+            nested,
+        } => nested.as_slice(),
+        _ => &[],
+    }
+}
+
 /// What a place holds, of the properties in its response.
 pub(crate) fn held_at<'p>(place: &Place, properties: &'p [Property]) -> &'p [Property]
     ensures { result.now ≡ spec.held_at place.now.name properties.now }
 {
     match (&place.name, properties.first()) {
         (None, _) => properties,
-        (Some(_), Some(property)) => shown::entries_of(&property.shape),
+        (Some(_), Some(property)) => entries_of(&property.shape),
         (Some(_), None) => &[],
     }
 }

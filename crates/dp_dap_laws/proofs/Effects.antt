@@ -14,28 +14,28 @@ use Rattle.dp_command.specs.Canonical.{canonical}
 use Rattle.dp_command.specs.declared.command.Continuation.{Continuation}
 use Rattle.dp_command.specs.declared.command.Continuation.TheVariants as going
 use Rattle.dp_command.specs.declared.line.Line.{Line}
-use Rattle.dp_dap.specs.declared.arguments.Asked.{Asked}
-use Rattle.dp_dap.specs.declared.arguments.Hits.{Hits}
-use Rattle.dp_dap.specs.declared.arguments.Hits.TheVariants.{Any, On, Bad}
-use Rattle.dp_dap.specs.declared.arguments.Wish.TheVariants as wish
+use Rattle.dp_dap_messages.specs.declared.arguments.Asked.{Asked}
+use Rattle.dp_dap_messages.specs.declared.arguments.Hits.{Hits}
+use Rattle.dp_dap_messages.specs.declared.arguments.Hits.TheVariants.{Any, On, Bad}
+use Rattle.dp_dap_messages.specs.declared.arguments.Wish.TheVariants as wish
 use Rattle.dp_dap.specs.declared.breakpoints.Kept.{Kept}
-use Rattle.dp_dap.specs.declared.effects.News.TheVariants as news
-use Rattle.dp_dap.specs.declared.effects.Refusal.{Refusal}
-use Rattle.dp_dap.specs.declared.effects.Refusal.TheVariants as refusal
-use Rattle.dp_dap.specs.declared.effects.StopReason.{StopReason}
-use Rattle.dp_dap.specs.declared.effects.StopReason.TheVariants as reason
-use Rattle.dp_dap.specs.declared.lines.Place.{Place}
-use Rattle.dp_dap.specs.declared.table.RequestName.{RequestName}
-use Rattle.dp_dap.specs.declared.table.RequestName.TheVariants as name
-use Rattle.dp_dap.specs.declared.table.Stage.{Stage}
-use Rattle.dp_dap.specs.declared.table.Stage.TheVariants as stage
+use Rattle.dp_dap_messages.specs.declared.effects.News.TheVariants as news
+use Rattle.dp_dap_messages.specs.declared.effects.Refusal.{Refusal}
+use Rattle.dp_dap_messages.specs.declared.effects.Refusal.TheVariants as refusal
+use Rattle.dp_dap_messages.specs.declared.effects.StopReason.{StopReason}
+use Rattle.dp_dap_messages.specs.declared.effects.StopReason.TheVariants as reason
+use Rattle.dp_dap_messages.specs.declared.lines.Place.{Place}
+use Rattle.dp_dap_messages.specs.declared.table.RequestName.{RequestName}
+use Rattle.dp_dap_messages.specs.declared.table.RequestName.TheVariants as name
+use Rattle.dp_dap_messages.specs.declared.table.Stage.{Stage}
+use Rattle.dp_dap_messages.specs.declared.table.Stage.TheVariants as stage
 use Rattle.dp_dap.specs.Answers.{Effect, and_then, bare, breakpoints_set, by_name, by_wish, cleared, comes_again, configured, contexts_shown, continued, disconnected, evaluated, fits, frame_known, gone_on, has_ended, held_shown, initialized, is_of, launched, place_at, place_shown, reference_limit, removed, replied, result_in, scopes_shown, set_all, set_by, set_on, set_one, settled, shown_in, stack_shown, stacks_in, start, turned, unless_fault, with_places}
-use Rattle.dp_dap.specs.Arguments.{both, breakpoint_in, breakpoints, breakpoints_in, given, some_text, text, wish_of, with_parts}
+use Rattle.dp_dap_messages.specs.Arguments.{both, breakpoint_in, breakpoints, breakpoints_in, given, some_text, text, wish_of, with_parts}
 use Rattle.dp_dap.specs.Known.{Known}
-use Rattle.dp_dap.specs.Lines.{eval_line, feature_line, finish_line, frame_line, going_line, place_line, remove_line, set_line, stack_line}
-use Rattle.dp_dap.specs.Messages.{frames_body, result_body}
-use Rattle.dp_dap.specs.Table.{allows}
-use Rattle.dp_dap.specs.Values.{frame, some_of}
+use Rattle.dp_dap_messages.specs.Lines.{eval_line, feature_line, finish_line, frame_line, going_line, place_line, remove_line, set_line, stack_line}
+use Rattle.dp_dap_messages.specs.Messages.{frames_body, result_body}
+use Rattle.dp_dap_messages.specs.Table.{allows}
+use Rattle.dp_dap_messages.specs.Values.{frame, some_of}
 use Rattle.dp_dap_laws.proofs.Leads.{Leads, Quiet, leads_one, quiet_both, quiet_none, quiet_one}
 use Rattle.dp_dap_laws.proofs.Lines.{feature_same, finish_same, going_keeps, remove_same, run_over, set_same}
 use Rattle.dp_engine.specs.declared.states.Phase.{Phase}

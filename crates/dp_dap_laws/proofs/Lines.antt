@@ -18,7 +18,7 @@ use Rattle.dp_command.specs.Sorts.{Each, is_name_byte}
 use Rattle.dp_command.proofs.LineLaws.{line_again}
 use Rattle.dp_command.proofs.Spellings.{named}
 use Rattle.dp_command.proofs.Written.{written_is}
-use Rattle.dp_dap.specs.Lines.{feature_line, finish_line, going_line, remove_line, set_line}
+use Rattle.dp_dap_messages.specs.Lines.{feature_line, finish_line, going_line, remove_line, set_line}
 use Rattle.dp_dap_laws.proofs.Leads.{IsSame}
 use Rattle.dp_engine.specs.declared.states.Phase.{Phase}
 use Rattle.dp_engine.specs.declared.states.Phase.TheVariants.{Starting, Break, Stopping}

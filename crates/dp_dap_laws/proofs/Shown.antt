@@ -12,17 +12,17 @@ use Rattle.serde_json.specs.Data.{Data}
 use Rattle.serde_json.specs.Written.{compact_text}
 use Rattle.dp_bodies.specs.Requests.{Request, request_in}
 use Rattle.dp_conversation.specs.Folds.{Reply, nothing_sent, replies, unless_ended}
-use Rattle.dp_dap.specs.declared.effects.News.{News}
-use Rattle.dp_dap.specs.declared.effects.News.TheVariants as news
-use Rattle.dp_dap.specs.declared.effects.Refusal.{Refusal}
-use Rattle.dp_dap.specs.declared.table.RequestName.{RequestName}
-use Rattle.dp_dap.specs.declared.table.RequestName.TheVariants as name
+use Rattle.dp_dap_messages.specs.declared.effects.News.{News}
+use Rattle.dp_dap_messages.specs.declared.effects.News.TheVariants as news
+use Rattle.dp_dap_messages.specs.declared.effects.Refusal.{Refusal}
+use Rattle.dp_dap_messages.specs.declared.table.RequestName.{RequestName}
+use Rattle.dp_dap_messages.specs.declared.table.RequestName.TheVariants as name
 use Rattle.dp_dap.specs.Answers.{Effect, answer, messages_of, tried, with_result}
 use Rattle.dp_dap.specs.Dap.{ending, is_request, reply, rest}
 use Rattle.dp_dap.specs.Known.{Known, opening}
-use Rattle.dp_dap.specs.Messages.{news_events, numbered, output_body, output_events, refused, success}
-use Rattle.dp_dap.specs.Table.{every_name, name_of, text_of}
-use Rattle.dp_dap.specs.Values.{php}
+use Rattle.dp_dap_messages.specs.Messages.{news_events, numbered, output_body, output_events, refused, success}
+use Rattle.dp_dap_messages.specs.Table.{every_name, name_of, text_of}
+use Rattle.dp_dap_messages.specs.Values.{php}
 use Rattle.dp_dap_laws.specs.Shown.{ShowsRun, is_evaluated, output_in}
 use Rattle.dp_dap_laws.proofs.Effects.{DoesNamed, named_does}
 use Rattle.dp_dap_laws.proofs.Leads.{Leads, leads_both, leads_run}

@@ -7,7 +7,7 @@ use Rattle.serde_json.specs.Find.{as_bool, get}
 use Rattle.serde_json.specs.Written.{compact_text}
 use Rattle.dp_bodies.specs.Requests.{says}
 use Rattle.dp_dap.specs.Dap.{answers_to, ending, rest}
-use Rattle.dp_dap.specs.Values.{php}
+use Rattle.dp_dap_messages.specs.Values.{php}
 use Rattle.dp_session_laws.specs.AllOutput.{IsRunWith}
 use Rattle.dp_tree.specs.declared.bundle.Bundle.{Bundle}
 

@@ -36,7 +36,7 @@ fn file_number(bundle: &Bundle, name: &[u8]) -> Result<Option<u32>, Memory>
 }
 
 /// The bytes of a path, with its percent escapes decoded: a `%` without two hexadecimal digits behind it stays.
-fn decoded(alloc: Global, path: &[u8]) -> Result<Bytes, Memory>
+pub fn decoded(alloc: Global, path: &[u8]) -> Result<Bytes, Memory>
     ensures { IfOk result (λ name. name ≡ decoded_path path.now) }
 {
     let mut name = Vec::new(alloc);

@@ -6,5 +6,5 @@ mod files;
 mod laws;
 
 pub use dp_value::Memory;
-pub use files::requested_file;
+pub use files::{decoded, requested_file};
 pub use laws::file_uris_are_read_back;

@@ -1,9 +1,8 @@
 -- What the code of the gateway leads to, in the words of the definitions.
-use Rattle.std.specs.Prelude.{◌≡◌, ◌<◌, ◌≤◌, ℕ, false, List, [], length, ⊤, Option, None, Some, option_map, Result, Ok, Err}
+use Rattle.std.specs.Prelude.{◌≡◌, ◌<◌, ◌≤◌, ℕ, List, [], length, ⊤, Option, None, Some, option_map, Result, Ok, Err}
 use Rattle.serde_json.specs.Data.{Data}
 use Rattle.serde_json.specs.declared.value.Value.{Value}
 use Rattle.serde_json.specs.View.{view}
-use Rattle.serde_json.specs.Written.{has_float}
 use Rattle.dp_conversation.specs.Folds.{Reply}
 use Rattle.dp_command.specs.declared.command.Continuation.{Continuation}
 use Rattle.dp_engine.specs.declared.session.Report.{Report}
@@ -14,16 +13,16 @@ use Rattle.dp_engine.specs.Session.{written_between}
 use Rattle.dp_wire.specs.Frames.{command_limit}
 use Rattle.dp_dap.specs.declared.effects.DapAnswer.{DapAnswer}
 use Rattle.dp_dap.specs.declared.effects.Effect.{Effect}
-use Rattle.dp_dap.specs.declared.effects.News.{News}
-use Rattle.dp_dap.specs.declared.effects.News.TheVariants as news
-use Rattle.dp_dap.specs.declared.effects.Refusal.{Refusal}
-use Rattle.dp_dap.specs.declared.effects.Refusal.TheVariants as refusal
-use Rattle.dp_dap.specs.declared.effects.StopReason.{StopReason}
+use Rattle.dp_dap_messages.specs.declared.effects.News.{News}
+use Rattle.dp_dap_messages.specs.declared.effects.News.TheVariants as news
+use Rattle.dp_dap_messages.specs.declared.effects.Refusal.{Refusal}
+use Rattle.dp_dap_messages.specs.declared.effects.Refusal.TheVariants as refusal
+use Rattle.dp_dap_messages.specs.declared.effects.StopReason.{StopReason}
 use Rattle.dp_dap.specs.declared.effects.Unanswered.{Unanswered}
 use Rattle.dp_dap.specs.declared.effects.Unanswered.TheVariants.{Refused, Memory}
 use Rattle.dp_dap.specs.Answers as spec
 use Rattle.dp_dap.specs.Known.{Known}
-use Rattle.dp_dap.specs.Lines.{going_line}
+use Rattle.dp_dap_messages.specs.Lines.{going_line}
 
 -- a body alone
 pub record IsBare (body : Option Value) (effect : Effect) : Type 0 where
@@ -31,11 +30,6 @@ pub record IsBare (body : Option Value) (effect : Effect) : Type 0 where
   pub written : effect.written ≡ []
   pub is_news : effect.news ≡ news.Nothing
   pub goes_on : effect.ended ≡ None
-
--- no number of a body is a float, so that its text is known
-abbrev pub HasNoFloat : Option Data → Type 0
-HasNoFloat None = ⊤
-HasNoFloat (Some seen) = has_float seen ≡ false
 
 -- an effect of the code, after which this is known
 abbrev pub effect_of : Effect → Known → spec.Effect

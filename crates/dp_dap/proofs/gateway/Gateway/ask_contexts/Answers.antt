@@ -2,7 +2,7 @@ use Rattle.std.proofs.Common.{subst, ◌∙◌}
 use Rattle.std.proofs.lemmas.Result.{IfErr-weaker, IfOk-weaker}
 use Rattle.dp_command.specs.Canonical.{canonical}
 use Rattle.dp_dap.specs.declared.effects.Unanswered.{Unanswered}
-use Rattle.dp_dap.specs.Lines.{contexts_line, frame_line}
+use Rattle.dp_dap_messages.specs.Lines.{contexts_line, frame_line}
 use Rattle.dp_dap.specs.inner.Effects.{IsNotReplied}
 use Rattle.dp_dap.proofs.AskLaws.{not_replied_at, replied_at}
 use Rattle.dp_dap.proofs.EffectLaws.{frame_looks, frame_refused, no_frame}

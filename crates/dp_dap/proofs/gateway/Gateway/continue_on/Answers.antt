@@ -2,7 +2,7 @@ use Rattle.std.proofs.Common.{◌≡◌, None, Ok, refl, ap, sym, ◌∙◌}
 use Rattle.std.proofs.lemmas.Result.{IfOk-weaker}
 use Rattle.dp_command.specs.declared.command.Continuation.{Continuation}
 use Rattle.dp_command.specs.declared.command.Continuation.TheVariants as going
-use Rattle.dp_dap.specs.declared.effects.StopReason.TheVariants as reason
+use Rattle.dp_dap_messages.specs.declared.effects.StopReason.TheVariants as reason
 use Rattle.dp_dap.specs.Answers as spec
 use Rattle.dp_dap.specs.Known.{Known}
 use Rattle.dp_dap.proofs.gateway.Gateway.continue_on.Goals as goal

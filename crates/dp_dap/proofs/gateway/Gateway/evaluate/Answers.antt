@@ -2,8 +2,8 @@ use Rattle.std.proofs.Common.{refl, ap, ◌∙◌}
 use Rattle.std.proofs.lemmas.Result.{err_from_is_err_and}
 use Rattle.dp_command.specs.Canonical.{canonical}
 use Rattle.dp_dap.specs.Answers as spec
-use Rattle.dp_dap.specs.Lines.{eval_line}
-use Rattle.dp_dap.specs.Messages.{result_body}
+use Rattle.dp_dap_messages.specs.Lines.{eval_line}
+use Rattle.dp_dap_messages.specs.Messages.{result_body}
 use Rattle.dp_dap.proofs.AskLaws.{behind_refused, not_replied, not_replied_at, replied_at}
 use Rattle.dp_dap.proofs.EffectLaws.{evaluated_is}
 use Rattle.dp_dap.proofs.gateway.Gateway.evaluate.Goals as goal

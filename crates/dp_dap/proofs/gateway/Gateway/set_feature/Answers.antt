@@ -3,7 +3,7 @@ use Rattle.dp_command.specs.Canonical.{canonical}
 use Rattle.dp_engine.specs.Answers.{Turn, turn}
 use Rattle.dp_engine.specs.Session.{State}
 use Rattle.dp_dap.specs.Known.{Known}
-use Rattle.dp_dap.specs.Lines.{feature_line}
+use Rattle.dp_dap_messages.specs.Lines.{feature_line}
 use Rattle.dp_dap.proofs.gateway.Gateway.set_feature.Goals as goal
 
 pub returns : goal.returns

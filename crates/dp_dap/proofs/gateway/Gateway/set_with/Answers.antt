@@ -1,6 +1,6 @@
 use Rattle.std.proofs.Common.{◌∙◌}
 use Rattle.std.proofs.lemmas.Result.{IfOk-weaker}
-use Rattle.dp_dap.specs.Lines.{set_line}
+use Rattle.dp_dap_messages.specs.Lines.{set_line}
 use Rattle.dp_dap.proofs.SetLaws.{both_ok, set_done, set_refused}
 use Rattle.dp_dap.proofs.gateway.Gateway.set_with.Goals as goal
 

@@ -2,9 +2,9 @@ use Rattle.std.proofs.Common.{◌≡◌, arith, ◌+◌, length, refl, ap, sym, 
 use Rattle.std.specs.Prelude.{nat_le}
 use Rattle.std.proofs.lemmas.Result.{err_from_is_err_and}
 use Rattle.dp_dap.specs.Answers as spec
-use Rattle.dp_dap.specs.Lines.{place_line}
-use Rattle.dp_dap.specs.Messages.{list}
-use Rattle.dp_dap.specs.Values as values
+use Rattle.dp_dap_messages.specs.Lines.{place_line}
+use Rattle.dp_dap_messages.specs.Messages.{list}
+use Rattle.dp_dap_messages.specs.Values as values
 use Rattle.dp_dap.proofs.AskLaws.{behind_refused, not_replied, not_replied_at, replied_at}
 use Rattle.dp_dap.proofs.EffectLaws.{has_room, list_full, list_looked, looks_are, no_room}
 use Rattle.dp_dap.proofs.TurnLaws.{place_stays}

@@ -2,11 +2,11 @@ use Rattle.std.proofs.Common.{◌≡◌, ℕ, suc, ◌+◌, length, refl, ap, sy
 use Rattle.std.specs.Prelude.{nat_le}
 use Rattle.std.proofs.lemmas.Bool.{leb-true}
 use Rattle.std.proofs.lemmas.Result.{err_from_is_err_and}
-use Rattle.dp_dap.specs.declared.effects.Refusal.TheVariants as refusal
+use Rattle.dp_dap_messages.specs.declared.effects.Refusal.TheVariants as refusal
 use Rattle.dp_dap.specs.declared.effects.Unanswered.TheVariants.{Refused}
 use Rattle.dp_dap.specs.Answers as spec
-use Rattle.dp_dap.specs.Messages.{list}
-use Rattle.dp_dap.specs.Values as values
+use Rattle.dp_dap_messages.specs.Messages.{list}
+use Rattle.dp_dap_messages.specs.Values as values
 use Rattle.dp_dap.specs.inner.Effects.{DidSo, Refuses}
 use Rattle.dp_dap.proofs.EffectLaws.{has_room, list_full, list_looked, no_room, places_count, scopes_refused}
 use Rattle.dp_dap.proofs.gateway.Gateway.show_scopes.Goals as goal

@@ -4,9 +4,9 @@ use Rattle.serde_json.specs.Data.{Data}
 use Rattle.dp_engine.specs.Answers.{Turn}
 use Rattle.dp_packet.specs.declared.packet.StackLine.{StackLine}
 use Rattle.dp_dap.specs.Answers as spec
-use Rattle.dp_dap.specs.Lines.{stack_line}
-use Rattle.dp_dap.specs.Messages.{frames_body}
-use Rattle.dp_dap.specs.Values.{frame, some_of}
+use Rattle.dp_dap_messages.specs.Lines.{stack_line}
+use Rattle.dp_dap_messages.specs.Messages.{frames_body}
+use Rattle.dp_dap_messages.specs.Values.{frame, some_of}
 use Rattle.dp_dap.proofs.AskLaws.{behind_refused, not_replied, not_replied_at, replied_at}
 use Rattle.dp_dap.proofs.EffectLaws.{looked}
 use Rattle.dp_dap.proofs.TurnLaws.{stack_stays}

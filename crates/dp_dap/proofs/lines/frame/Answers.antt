@@ -1,6 +1,0 @@
-use Rattle.std.proofs.Common.{refl, sym, subst}
-use Rattle.dp_dap.specs.inner.Lettered.{AreLettered}
-use Rattle.dp_dap.proofs.lines.frame.Goals as goal
-
-pub spell-requires : goal.spell-requires
-spell-requires c = subst AreLettered (sym c.in_ok-options.ensures) (refl, (refl, tt))

@@ -1,0 +1,6 @@
+use Rattle.std.proofs.Common.{refl, sym, subst}
+use Rattle.dp_dap_messages.specs.inner.Lettered.{AreLettered}
+use Rattle.dp_dap_messages.proofs.lines.feature.Goals as goal
+
+pub spell-requires : goal.spell-requires
+spell-requires c = subst AreLettered (sym c.in_ok-options.ensures) (refl, (refl, (refl, tt)))
