@@ -13,7 +13,7 @@ ghost use Rattle.dp_registry.specs.declared.pass.Pass.{Pass};
 ghost use Rattle.dp_session_laws.specs.AllOutput.{AreBytes};
 ghost use Rattle.dp_top.specs.Dap.{Daps, EndsSo};
 ghost use Rattle.dp_top.specs.Engines.{engines_of};
-ghost use Rattle.dp_top.specs.Failures.{Failed, status_of};
+ghost use Rattle.dp_top.specs.Failures.{CommandFailure, status_of};
 ghost use Rattle.dp_top.specs.Seen.{Seen};
 ghost use Rattle.dp_top.specs.Statuses.{memory_status, output_status};
 ghost use Rattle.dp_tree.specs.FileNames.{file_name_limit};
@@ -53,6 +53,7 @@ pub fn in_plain_words()
 pub fn dap_shows_its_program()
     ensures done { (status : ℕ) (ask : Invocation) (old new : Seen) → Daps status ask old new
         → ShowsProgram (Ok status) ask old new }
-    ensures ended { (why : Failed) (name : List ℕ) (ask : Invocation) (old new : Seen) → EndsSo why name ask old new
-        → status_of why ≢ output_status → status_of why ≢ memory_status → ShowsProgram (Err (why, name)) ask old new }
+    ensures ended { (why : CommandFailure) (name : List ℕ) (ask : Invocation) (old new : Seen)
+        → EndsSo why name ask old new → status_of why ≢ output_status → status_of why ≢ memory_status
+        → ShowsProgram (Err (why, name)) ask old new }
 {}

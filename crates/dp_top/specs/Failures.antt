@@ -15,8 +15,8 @@ use Rattle.dp_state.specs.Statuses.{killed_status, unfinished_status}
 use Rattle.dp_top.specs.Statuses.{source_status, shelf_status, output_status, script_status, differs_status, peer_end_status, packet_status, network_status, memory_status, lies_status}
 
 -- why a command fails, by a name that other crates can say
-abbrev pub Failed : Type 0
-Failed = Failure
+abbrev pub CommandFailure : Type 0
+CommandFailure = Failure
 
 -- the status that the call answers
 abbrev pub status_of : Failure → ℕ
