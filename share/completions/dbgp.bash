@@ -18,10 +18,10 @@ _dbgp() {
     local word=${COMP_WORDS[COMP_CWORD]} command=${COMP_WORDS[1]} place first
     COMPREPLY=()
     if ((COMP_CWORD == 1)); then
-        mapfile -t COMPREPLY < <(compgen -W 'run talk tape audit dap engine ide proxy replay soak show' -- "$word")
+        mapfile -t COMPREPLY < <(compgen -W 'run talk tape audit dap engine async ide proxy replay soak show' -- "$word")
         return
     fi
-    if ((COMP_CWORD == 2)) && [[ $word == -* && $command =~ ^(run|talk|tape|audit|dap|engine|replay)$ ]]; then
+    if ((COMP_CWORD == 2)) && [[ $word == -* && $command =~ ^(run|talk|tape|audit|dap|engine|async|replay)$ ]]; then
         COMPREPLY=(--bound)
         return
     fi
@@ -36,12 +36,12 @@ _dbgp() {
     case $command in
         run | dap | replay) first=0 ;;
         talk | tape | audit | ide) first=1 ;;
-        engine) first=3 ;;
+        engine | async) first=3 ;;
         *) return ;;
     esac
-    if [[ $command == engine && $place == 0 ]]; then
+    if [[ $command =~ ^(engine|async)$ && $place == 0 ]]; then
         mapfile -t COMPREPLY < <(compgen -W '127.0.0.1 localhost' -- "$word")
-    elif [[ $command == engine && $place == 1 || $command == ide && $place == 0 ]]; then
+    elif [[ $command =~ ^(engine|async)$ && $place == 1 || $command == ide && $place == 0 ]]; then
         mapfile -t COMPREPLY < <(compgen -W '9000 9003' -- "$word")
     elif ((place >= first)) && [[ $command != ide || $place == 1 ]]; then
         _dbgp_files "$word"

@@ -1,14 +1,11 @@
 //! Calls of the crates of the program's commands.
 
 use dp_ide::{IdeError, Script};
-use dp_outside::{ByteSink, ByteSource, MapShelf, NoNet, NoSpawner};
+use dp_outside::{ByteSink, ByteSource};
 use dp_show::show;
-use dp_top::top;
 use dp_value::Memory;
 use dp_words::{Command, read_words};
 use std::alloc::Global;
-use std::sync::Wait;
-use std::thread::Threads;
 
 /// A script is read.
 pub(crate) fn dp_ide(alloc: Global) -> Result<String, IdeError> {
@@ -51,41 +48,4 @@ pub(crate) fn dp_words(alloc: Global) -> Result<String, Memory> {
     };
     // end
     format!(in alloc; "{bound}")
-}
-
-/// The program is called over objects in memory.
-pub(crate) fn dp_top<R: Wait + Sync + Threads + Send>(
-    rt: &R,
-    alloc: Global,
-) -> Result<String, Memory> {
-    let words = run_words(alloc)?;
-    let mut files = Vec::new(alloc);
-    files.push((
-        String::from_str(alloc, "a.php")?,
-        b"<?php echo 7;".to_vec(alloc)?,
-    ))?;
-    let mut shelf = MapShelf::new(files, Vec::new(alloc))?;
-    let mut input = ByteSource::new(Vec::new(alloc), Vec::new(alloc), Vec::new(alloc))?;
-    let mut err = ByteSink::new(alloc, 64, Vec::new(alloc))?;
-    let mut net = NoNet::new();
-    let mut spawner: NoSpawner<R> = NoSpawner::new();
-    let words = words.as_slice();
-    // call: the words are `run a.php`, and a shelf has that file
-    let mut out = ByteSink::new(alloc, 64, Vec::new(alloc))?;
-    let status = top(
-        rt,
-        alloc,
-        words,
-        &mut shelf,
-        &mut input,
-        &mut out,
-        &mut err,
-        &mut net,
-        &mut spawner,
-    );
-    let written = out.taken();
-    // end
-    let written = String::from_utf8_lossy(alloc, written)?;
-    let written = written.as_str();
-    format!(in alloc; "{status}, {written}")
 }

@@ -66,7 +66,6 @@ fn main(rt: HostRuntime) -> io::Result<()> {
     put(&mut told, "dp_ide", commands::dp_ide(alloc))?;
     put(&mut told, "dp_show", commands::dp_show(alloc))?;
     put(&mut told, "dp_words", commands::dp_words(alloc))?;
-    put(&mut told, "dp_top", commands::dp_top(&rt, alloc))?;
     print!(rt; "{}", told.as_str())?;
     Ok(())
 }

@@ -1,24 +1,28 @@
 //! What each IDE receives of the engines of a program.
 ghost use Rattle.std.specs.Prelude.{◌≡◌, ◌≢◌, ◌≤◌, List, ℕ, Ok, Err, false, length};
+ghost use Rattle.dp_async.specs.declared.service.AsyncServed.{AsyncServed};
 ghost use Rattle.dp_engine.specs.Responses.{main_name};
 ghost use Rattle.dp_engine.specs.Served as session;
 ghost use Rattle.dp_events.specs.declared.event.Act.{Act};
 ghost use Rattle.dp_events.specs.declared.event.Event.{Event};
 ghost use Rattle.dp_headline.specs.Adapted.{ShowsProgram};
+ghost use Rattle.dp_headline.specs.Listened.{IsSound, ShowsHeard};
 ghost use Rattle.dp_lanes.specs.declared.lane.LaneKind.TheVariants.{Down};
 ghost use Rattle.dp_lanes.specs.Lanes.{is_bad};
 ghost use Rattle.dp_outside.specs.Names.{key_limit};
 ghost use Rattle.dp_proxy_laws.specs.PlainWords.{IsPlain, given_on};
 ghost use Rattle.dp_registry.specs.declared.pass.Pass.{Pass};
 ghost use Rattle.dp_session_laws.specs.AllOutput.{AreBytes};
+ghost use Rattle.dp_top.specs.Async.{IsServed, Listens, judged};
 ghost use Rattle.dp_top.specs.Dap.{Daps, EndsSo};
 ghost use Rattle.dp_top.specs.Engines.{engines_of};
 ghost use Rattle.dp_top.specs.Failures.{CommandFailure, status_of};
 ghost use Rattle.dp_top.specs.Seen.{Seen};
 ghost use Rattle.dp_top.specs.Statuses.{memory_status, output_status};
+ghost use Rattle.dp_top.specs.Talk.{EndReport};
 ghost use Rattle.dp_tree.specs.FileNames.{file_name_limit};
 ghost use Rattle.dp_tree.specs.declared.bundle.Bundle.{Bundle};
-ghost use Rattle.dp_words.specs.Words.{Invocation};
+ghost use Rattle.dp_words.specs.Words.{Address, Invocation};
 ghost use Rattle.dp_world.specs.Alone as world;
 ghost use Rattle.dp_world.specs.Headline.{EachReceives};
 
@@ -56,4 +60,15 @@ pub fn dap_shows_its_program()
     ensures ended { (why : CommandFailure) (name : List ℕ) (ask : Invocation) (old new : Seen)
         → EndsSo why name ask old new → status_of why ≢ output_status → status_of why ≢ memory_status
         → ShowsProgram (Err (why, name)) ask old new }
+{}
+
+/// Where `async` went well, and where its session ended though no output and no link failed and memory sufficed, it was
+/// served whole over what was heard, what it sent and what its program's own output has tell the program's run, and it
+/// reports how that ended. Where no write was accepted that is the run that nobody watches.
+pub fn async_shows_its_program()
+    ensures done { (status : ℕ) (address : Address) (key : List ℕ) (ask : Invocation) (old new : Seen)
+        → Listens status address key ask old new → ShowsHeard (Ok status) address key ask old new }
+    ensures ended { (report : EndReport) (served : AsyncServed) (address : Address) (key : List ℕ) (ask : Invocation)
+        (old new : Seen) → IsServed served address key ask old new → judged ask served ≡ report → IsSound report
+        → ShowsHeard report address key ask old new }
 {}

@@ -45,9 +45,10 @@ use Rattle.dp_engine.specs.Refusals.{of_command, refusal_of_line}
 use Rattle.dp_engine.specs.Served.{answers_to, ending_after, ending_with, own_with, rest_after, writes_with}
 use Rattle.dp_conversation.specs.Growth.{Begins}
 use Rattle.dp_session_laws.specs.AllOutput.{IsRunWith, NeverRedirects, UnlessEnded, all_output_with, writing}
-use Rattle.dp_engine.specs.Session.{State, breaks_of, depth_at, opening, outcome_of, output_by, output_so_far, program_by, program_of, stop_of, trace_of, unwritten, whole_output, written_between}
+use Rattle.dp_engine.specs.Session.{State, breaks_of, depth_at, opening, outcome_of, output_by, output_so_far, program_by, program_of, trace_of, unwritten, whole_output, written_between}
 use Rattle.dp_session_laws.specs.Shown.{IsInRun, IsInRunAt}
 use Rattle.dp_engine.specs.States.{allows}
+use Rattle.dp_engine.specs.NextStop.{stop_past}
 use Rattle.dp_engine.specs.inner.Turns.{IsTimely}
 use Rattle.dp_engine.specs.Stops.{stops}
 use Rattle.dp_engine.proofs.NewWrites.{own_number, same_pair}
@@ -145,7 +146,7 @@ pieces_join a b c p q =
     ∙ drop-append_seam a (p.0 ++ q.0) in
     (λ i. first i ++ second i) ∙ sym whole
 
-whole_piece : (a b : List ℕ) → Begins a b → a ++ drop (length a) b ≡ b
+pub whole_piece : (a b : List ℕ) → Begins a b → a ++ drop (length a) b ≡ b
 whole_piece a b p = ap (λ (x : List ℕ). a ++ x) (ap (drop (length a)) p.1 ∙ drop-append_seam a p.0) ∙ sym p.1
 
 -- features change nothing of the output
@@ -222,20 +223,20 @@ own_programs state (line ∷ lines) h =
 -- ---- sessions
 
 module _ (bundle : Bundle) (bound : ℕ) where
-  abbrev moments_with : List NumberedWrite → List (Moment × ProgramState)
+  abbrev pub moments_with : List NumberedWrite → List (Moment × ProgramState)
   moments_with ws = (program_trace bundle bound ws).moments
 
   -- where the program stands: before its first moment, at a moment, or at its end
-  abbrev IsPlaced : List NumberedWrite → Phase → ℕ → Type 0
+  abbrev pub IsPlaced : List NumberedWrite → Phase → ℕ → Type 0
   IsPlaced ws Starting moment = moment ≡ 0
   IsPlaced ws Break moment =
       (k : ℕ) × (p : Moment × ProgramState) × (moment ≡ k + 1) × (slice_get (moments_with ws) k ≡ Some p)
   IsPlaced ws Stopping moment = Unit {0}
 
-  record IsPlain (state : State) : Type 0 where
-    of : state.bundle ≡ bundle
-    within : state.bound ≡ bound
-    placed : IsPlaced state.writes state.phase state.moment
+  pub record IsPlain (state : State) : Type 0 where
+    pub of : state.bundle ≡ bundle
+    pub within : state.bound ≡ bound
+    pub placed : IsPlaced state.writes state.phase state.moment
 
   -- the session's values
   at_values : (state : State) → IsPlain state → (ws : List NumberedWrite) (moment : ℕ)
@@ -244,10 +245,10 @@ module _ (bundle : Bundle) (bound : ℕ) where
   at_values state h ws moment =
       λ i. option_map_or (λ (s : ProgramState). s.output) (now (h.of i) (h.within i) ws moment) []
 
-  whole_is : (state : State) → IsPlain state → whole_output state ≡ output bundle bound state.writes
+  pub whole_is : (state : State) → IsPlain state → whole_output state ≡ output bundle bound state.writes
   whole_is state h = λ i. output (h.of i) (h.within i) state.writes
 
-  outcome_is : (state : State) → IsPlain state → outcome_of state ≡ outcome bundle bound state.writes
+  pub outcome_is : (state : State) → IsPlain state → outcome_of state ≡ outcome bundle bound state.writes
   outcome_is state h = λ i. outcome (h.of i) (h.within i) state.writes
 
   -- the output at a moment, after its writes
@@ -276,7 +277,7 @@ module _ (bundle : Bundle) (bound : ℕ) where
       at_values state h state.writes state.moment
       ∙ ap (λ (n : ℕ). option_map_or (λ (s : ProgramState). s.output) (now bundle bound state.writes n) []) e
 
-  so_far_begins : (phase : Phase) (state : State) → IsPlain state → IsPlaced state.writes phase state.moment
+  pub so_far_begins : (phase : Phase) (state : State) → IsPlain state → IsPlaced state.writes phase state.moment
       → Begins (output_by phase state) (output bundle bound state.writes)
   so_far_begins Starting state h placed =
       subst (λ (o : List ℕ). Begins o (output bundle bound state.writes)) (sym (in_starting state h placed))
@@ -314,9 +315,9 @@ module _ (bundle : Bundle) (bound : ℕ) where
       (omega (arith, late, placed.2)))
   later_begins Stopping state h not_over placed k m late is = absurd (not_over refl)
 
-  record Grows (state next : State) : Type 0 where
-    is_plain : IsPlain next
-    begins : Begins (output_so_far state) (output_so_far next)
+  pub record Grows (state next : State) : Type 0 where
+    pub is_plain : IsPlain next
+    pub begins : Begins (output_so_far state) (output_so_far next)
 
   ended_grows : (state : State) → IsPlain state → Grows state (at_end state)
   ended_grows state h = record {
@@ -324,11 +325,15 @@ module _ (bundle : Bundle) (bound : ℕ) where
     begins = subst (Begins (output_so_far state)) (sym (whole_is state h)) (so_far_begins state.phase state h h.placed);
   }
 
-  stopped_grows : (state : State) → IsPlain state → state.phase ≢ Stopping → (mode : Continuation) (j : ℕ)
-      → stop_of mode state ≡ Some j → Grows state (at_stop state j)
-  stopped_grows state h not_over mode j e =
-      let there = stop_is_there (stops mode (depth_at state)) state.bundle state.breaks.held state.moment
-      (trace_of state).moments j e in
+  -- it stops by a test, past the current moment
+  abbrev StopsBy : (Moment → Bool) → State → Option ℕ → Type 0
+  StopsBy test state stop =
+      stop_past test state.bundle state.bound state.writes state.breaks.held state.moment ≡ stop
+
+  stopped_grows : (state : State) → IsPlain state → state.phase ≢ Stopping → (test : Moment → Bool) (j : ℕ)
+      → StopsBy test state (Some j) → Grows state (at_stop state j)
+  stopped_grows state h not_over test j e =
+      let there = stop_is_there test state.bundle state.breaks.held state.moment (trace_of state).moments j e in
       let is : slice_get (moments_with state.writes) there.0 ≡ Some there.1 = ap
       (λ (l : List (Moment × ProgramState)). slice_get l there.0) (sym (trace_is state h)) ∙ there.4 in
       let come = output_after state.writes (suc there.0) there.1.1 in
@@ -341,10 +346,10 @@ module _ (bundle : Bundle) (bound : ℕ) where
             (writes_add bundle state.writes (suc there.0) there.1.1));
       }
 
-  moved_grows : (state : State) → IsPlain state → state.phase ≢ Stopping → (mode : Continuation) (stop : Option ℕ)
-      → stop_of mode state ≡ stop → Grows state (moved state stop)
-  moved_grows state h not_over mode None e = ended_grows state h
-  moved_grows state h not_over mode (Some j) e = stopped_grows state h not_over mode j e
+  moved_grows : (state : State) → IsPlain state → state.phase ≢ Stopping → (test : Moment → Bool) (stop : Option ℕ)
+      → StopsBy test state stop → Grows state (moved state stop)
+  moved_grows state h not_over test None e = ended_grows state h
+  moved_grows state h not_over test (Some j) e = stopped_grows state h not_over test j e
 
   -- one write more, in a break
   written_grows : (state : State) → IsPlain state → (w : ProgramWrite) → state.phase ≡ Break
@@ -393,12 +398,21 @@ module _ (bundle : Bundle) (bound : ℕ) where
     begins = subst (Begins (output_so_far state)) (breaks_apart next.phase next breaks) g.begins;
   }
 
-  gone_grows : (state : State) → (mode : Continuation) (stop : Option ℕ) → Grows state (moved state stop)
-      → Grows state (moved (record state { breaks = breaks_of mode state }) stop)
-  gone_grows state mode None g = with_breaks state (at_end state) (breaks_of mode state) g
-  gone_grows state mode (Some j) g = with_breaks state (at_stop state j) (breaks_of mode state) g
+  with_table : (state : State) (breaks : Table) (stop : Option ℕ) → Grows state (moved state stop)
+      → Grows state (moved (record state { breaks = breaks }) stop)
+  with_table state breaks None g = with_breaks state (at_end state) breaks g
+  with_table state breaks (Some j) g = with_breaks state (at_stop state j) breaks g
 
-  move_grows : (state next : State) → IsPlain state → Moves state next → Grows state next
+  -- it goes on, by a test and from any moment
+  pub gone_grows : (state : State) → IsPlain state → state.phase ≢ Stopping → (test : Moment → Bool) (breaks : Table)
+      → Grows state (moved (record state { breaks = breaks })
+      (stop_past test state.bundle state.bound state.writes state.breaks.held state.moment))
+  gone_grows state h not_over test breaks =
+      with_table state breaks (stop_past test state.bundle state.bound state.writes state.breaks.held state.moment)
+      (moved_grows state h not_over test
+      (stop_past test state.bundle state.bound state.writes state.breaks.held state.moment) refl)
+
+  pub move_grows : (state next : State) → IsPlain state → Moves state next → Grows state next
   move_grows state _ h stays = record { is_plain = h; begins = begins_same (output_so_far state) }
   move_grows state _ h (sets features) = record {
     is_plain = record { of = h.of; within = h.within; placed = h.placed };
@@ -415,7 +429,7 @@ module _ (bundle : Bundle) (bound : ℕ) where
       with_breaks state state breaks (record { is_plain = h; begins = begins_same (output_so_far state) })
   move_grows state _ h (writes_on w e) = written_grows state h w e
   move_grows state _ h (goes mode not_over) =
-      gone_grows state mode (stop_of mode state) (moved_grows state h not_over mode (stop_of mode state) refl)
+      gone_grows state h not_over (stops mode (depth_at state)) (breaks_of mode state)
 
   -- ---- over all commands
 
@@ -456,11 +470,11 @@ module _ (bundle : Bundle) (bound : ℕ) where
       followed_shows state (writing state line) (replies writing (answer state line).state lines) first
       (replies_show (answer state line).state lines first.is_plain)
 
-  opening_plain : IsPlain (opening bundle bound)
+  pub opening_plain : IsPlain (opening bundle bound)
   opening_plain = record { of = refl; within = refl; placed = refl }
 
   -- where a session stands
-  stands_by : (phase : Phase) (state : State) → IsPlain state → IsPlaced state.writes phase state.moment
+  pub stands_by : (phase : Phase) (state : State) → IsPlain state → IsPlaced state.writes phase state.moment
       → IsInRunAt phase bundle bound state.writes state.moment (program_by phase state)
   stands_by Starting state h placed =
       (placed, (λ i. unwrap_or (now (h.of i) (h.within i) state.writes (placed i)) (first_state (h.of i))))

@@ -54,7 +54,8 @@ free-table : (r : Result Table WriteError) (f : Table → Result Data WriteError
     → ((t : Table) → IsFree (f t)) → IsFree (then_table r f)
 free-table (Ok t) f holds free e = free t e
 free-table (Err why) f holds free e =
-    let same : why ≡ write.Memory = cc in holds (ap (λ (w : WriteError). let r : Result Table WriteError = Err w in r) same)
+    let same : why ≡ write.Memory = cc in
+    holds (ap (λ (w : WriteError). let r : Result Table WriteError = Err w in r) same)
 
 holder-free : (d : Data) → holder_of d ≢ Err write.Memory
 holder-free null e = cc

@@ -50,8 +50,9 @@ impl State {
         done
     }
 
-    /// Gives a variable of the top frame, or its entry under `keys`, a text with a piece behind it, and gives it. If the
-    /// text has no owner but the one that is given here and that place itself, it grows there.
+    /// Gives a variable of the top frame, or its entry under `keys`, a text with a piece behind it, and
+    /// gives it. If the text has no owner but the one that is given here and that place itself, it
+    /// grows there.
     ///
     /// It is refused as by `assign`, also where there is no memory, and then the state is as before. After out of
     /// memory it is as before, or null stands in that place.

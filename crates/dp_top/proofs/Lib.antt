@@ -13,5 +13,7 @@ pub mod ReplayReports
 pub mod RecordLaws
 pub mod RecordEnds
 pub mod RecordReports
+pub mod AsyncLaws
+pub mod AsyncReports
 pub mod DapLaws
 pub mod DapReports

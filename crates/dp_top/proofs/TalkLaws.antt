@@ -66,7 +66,7 @@ good_end ask (Some (way.Exit status)) = tt
 good_end ask (Some (way.Fatal kind file line)) = ((λ e. omega (arith, e)), (λ e. cc))
 good_end ask (Some way.Bound) = ((λ e. omega (arith, e)), (λ e. cc))
 
-good_judged : (unsent : Failure) → IsGood unsent → (ask : Invocation) (outcome : Option Outcome) (end : ServeEnd)
+pub good_judged : (unsent : Failure) → IsGood unsent → (ask : Invocation) (outcome : Option Outcome) (end : ServeEnd)
     → IsGoodReport (judged_by unsent ask outcome end)
 good_judged unsent good ask outcome Stopped = good_end ask outcome
 good_judged unsent good ask outcome Detached = good_end ask outcome

@@ -26,7 +26,7 @@ use Rattle.dp_program.specs.Runs.{RunCaused}
 use Rattle.dp_state.specs.declared.moments.Outcome.{Outcome}
 use Rattle.dp_state.specs.declared.moments.Outcome.TheVariants as way
 use Rattle.dp_top.specs.declared.failures.Refused.{Refused}
-use Rattle.dp_words.specs.Words.{Address, Invocation, IsEngine, IsProxy, IsRun, IsSoak, IsTalk, Service, Task, run, talk, tape, audit, dap, engine, ide, replay, soak, proxy, show, IsInvocation, invocation_in, invocation_of, port_of, seed_limit, served_count_of, session_count_of, uses_net, uses_shelf, uses_spawner}
+use Rattle.dp_words.specs.Words.{Address, Invocation, IsEngine, IsProxy, IsRun, IsSoak, IsTalk, Service, Task, run, talk, tape, audit, dap, engine, async, ide, replay, soak, proxy, show, IsInvocation, invocation_in, invocation_of, port_of, seed_limit, served_count_of, session_count_of, uses_net, uses_shelf, uses_spawner}
 use Rattle.dp_outside.specs.Links.{CountsReturned}
 use Rattle.dp_top.specs.Engine.{EngineFails, EndsSo as EngineEnds}
 use Rattle.dp_top.specs.Links.{IsDialled}
@@ -43,6 +43,7 @@ use Rattle.dp_top.specs.Soak.{SoakFails}
 use Rattle.dp_top.specs.Talk.{EndReport, EndsSo, TalkFails, ended, judged_by}
 use Rattle.dp_top.specs.Tasks.{failure_of, ShowCaused, Does, Caused, Fails, IsFetchedFor, before_line}
 use Rattle.dp_top.proofs.RunReports.{bad_source, nothing_fetched}
+use Rattle.dp_top.proofs.AsyncLaws.{async_starved}
 use Rattle.dp_top.proofs.DapLaws.{dap_starved}
 use Rattle.dp_top.proofs.RecordLaws.{audit_starved, tape_starved}
 use Rattle.dp_program.proofs.GrownNames.{grown_by_none}
@@ -66,6 +67,12 @@ asked_engine bound (host ∷ number ∷ key ∷ names) =
     option_map (λ port. engine (record { host = host; port = port }) key (record { bound = bound; names = names }))
     (port_of number)
 asked_engine bound names = None
+
+abbrev asked_async : ℕ → List (List ℕ) → Option Task
+asked_async bound (host ∷ number ∷ key ∷ names) =
+    option_map (λ port. async (record { host = host; port = port }) key (record { bound = bound; names = names }))
+    (port_of number)
+asked_async bound names = None
 
 abbrev asked_ide : List (List ℕ) → Option Task
 asked_ide (number ∷ script ∷ []) = option_map (λ port. ide port script) (port_of number)
@@ -101,10 +108,11 @@ asked_by name behind =
     else (if bytes_eq name (codes "audit") then asked_behind asked_audit behind
     else (if bytes_eq name (codes "dap") then option_map dap (invocation_of behind)
     else (if bytes_eq name (codes "engine") then asked_behind asked_engine behind
+    else (if bytes_eq name (codes "async") then asked_behind asked_async behind
     else (if bytes_eq name (codes "ide") then asked_ide behind
     else (if bytes_eq name (codes "replay") then asked_behind asked_replay behind
     else (if bytes_eq name (codes "soak") then asked_soak behind
-    else (if bytes_eq name (codes "proxy") then asked_proxy behind else Some show)))))))))
+    else (if bytes_eq name (codes "proxy") then asked_proxy behind else Some show))))))))))
 
 abbrev asked : List (List ℕ) → Option Task
 asked [] = None
@@ -126,6 +134,10 @@ asked_so words (engine address key ask) h =
     ap asked h.words_are
     ∙ ap (option_and_then (λ (a : Invocation). asked_engine a.bound a.names)) h.dials.invocation
     ∙ ap (option_map (λ port. engine (record { host = address.host; port = port }) key ask)) h.dials.port
+asked_so words (async address key ask) h =
+    ap asked h.words_are
+    ∙ ap (option_and_then (λ (a : Invocation). asked_async a.bound a.names)) h.dials.invocation
+    ∙ ap (option_map (λ port. async (record { host = address.host; port = port }) key ask)) h.dials.port
 asked_so words (ide port script) h =
     ap asked h.words_are ∙ ap (option_map (λ p. ide p script)) h.is_port
 asked_so words (replay events ask) h =
@@ -197,6 +209,7 @@ memory_name (tape key ask) name = name
 memory_name (audit key ask) name = name
 memory_name (dap ask) name = name
 memory_name (engine address key ask) name = name
+memory_name (async address key ask) name = name
 memory_name (ide port script) name = name
 memory_name (replay events ask) name = name
 memory_name (soak count seed) name = name
@@ -260,6 +273,7 @@ memory_instead failed name (tape key ask) old new h = (tape_starved failed name 
 memory_instead failed name (audit key ask) old new h = (audit_starved failed name key ask old new h.0, h.1)
 memory_instead failed name (dap ask) old new h = (dap_starved failed name ask old new h.0, h.1)
 memory_instead failed name (engine address key ask) old new h = engine_starved failed name address key ask old new h
+memory_instead failed name (async address key ask) old new h = async_starved failed name address key ask old new h
 memory_instead failed name (ide port script) old new h = ide_starved failed name port script old new h
 memory_instead failed name (replay events ask) old new h =
     (replay_starved failed name events ask _ _ _ _ h.0, h.1, h.2, h.3)
@@ -452,8 +466,8 @@ returned_rose (suc n) before after h some = h
 -- where no count rose and the files are not told as bad, what fails is a packet, the program's end, a stop or memory
 module _ (failed : Failure) (name : List ℕ) (address : Address) (key : List ℕ) (ask : Invocation) (old new : Seen)
     (good : IsGood failed) (none : NoneRose old new) where
-  link_sound : (source sink : Change) → IsDialled address source sink old.net new.net → 0 < source.faults + sink.faults
-      → ⊥
+  pub link_sound : (source sink : Change) → IsDialled address source sink old.net new.net
+      → 0 < source.faults + sink.faults → ⊥
   link_sound source sink d some =
       none.returned_not (returned_rose (source.faults + sink.faults) old.net.returned new.net.returned d.returned some)
 
@@ -546,6 +560,7 @@ done_offline status (tape key ask) old new h e = h.1
 done_offline status (audit key ask) old new h e = h.1
 done_offline status (dap ask) old new h e = h.1
 done_offline status (engine address key ask) old new h e = absurd cc
+done_offline status (async address key ask) old new h e = absurd cc
 done_offline status (ide port script) old new h e = absurd cc
 done_offline status (replay events ask) old new h e = h.3
 done_offline status (soak count seed) old new h e = h.3
@@ -560,6 +575,7 @@ caused_offline failed name (tape key ask) old new h e = h.1
 caused_offline failed name (audit key ask) old new h e = h.1
 caused_offline failed name (dap ask) old new h e = h.1
 caused_offline failed name (engine address key ask) old new h e = absurd cc
+caused_offline failed name (async address key ask) old new h e = absurd cc
 caused_offline failed name (ide port script) old new h e = absurd cc
 caused_offline failed name (replay events ask) old new h e = h.3
 caused_offline failed name (soak count seed) old new h e = h.3
@@ -699,6 +715,7 @@ none_fetched (tape key ask) told = nothing_fetched (Some ask) told
 none_fetched (audit key ask) told = nothing_fetched (Some ask) told
 none_fetched (dap ask) told = nothing_fetched (Some ask) told
 none_fetched (engine address key ask) told = nothing_fetched (Some ask) told
+none_fetched (async address key ask) told = nothing_fetched (Some ask) told
 none_fetched (ide port script) told = (0, grown_by_none told)
 none_fetched (replay events ask) told = (0, grown_by_none told)
 none_fetched (soak count seed) told = refl

@@ -1,6 +1,6 @@
 -- The answer of the top call, by how it came to it.
 use Rattle.std.proofs.Common.{◌≡◌, ◌⊎◌, ℕ, ◌<◌, ◌≤◌, false, List, Ok, Err, refl, arith, inl, inr, codes}
-use Rattle.dp_words.specs.Words.{IsInvocation, Task, run, talk, tape, audit, dap, engine, ide, replay, soak, proxy, show}
+use Rattle.dp_words.specs.Words.{IsInvocation, Task, run, talk, tape, audit, dap, engine, async, ide, replay, soak, proxy, show}
 use Rattle.dp_words.specs.Plain.{are_plain}
 use Rattle.dp_top.specs.declared.failures.Refused.{Refused}
 use Rattle.dp_top.specs.Failures.{status_of, line_of, Says}
@@ -8,6 +8,7 @@ use Rattle.dp_top.specs.Seen.{NoneRose, Seen, Stream, changed}
 use Rattle.dp_top.specs.Tasks.{Fails, before_line}
 use Rattle.dp_top.specs.Top.{Answers}
 use Rattle.dp_top.specs.inner.Carried.{IsCarriedOut}
+use Rattle.dp_top.proofs.AsyncReports.{complete_async_told}
 use Rattle.dp_top.proofs.DapReports.{complete_dap_told}
 use Rattle.dp_top.proofs.IdeLaws.{complete_ide_told, plays_well, script_held_told, script_refused_done, script_refused_told}
 use Rattle.dp_top.proofs.RecordReports.{audits_well, complete_audit_told, complete_tape_told}
@@ -37,6 +38,7 @@ usage_answers words old err none says later = record {
   complete_audit = λ key ask program is made still. absurd (none (audit key ask) is);
   complete_dap = λ ask program is made still. absurd (none (dap ask) is);
   complete_engine = λ address key ask program is made still. absurd (none (engine address key ask) is);
+  complete_async = λ address key ask program is made still. absurd (none (async address key ask) is);
   refused = λ task ask why is asked makes. absurd (none task is);
   complete_show = λ is still. absurd (none show is);
   script_refused = λ port line script is told bad. absurd (none (ide port script) is);
@@ -92,6 +94,7 @@ unread_answers words old err plain says later = record {
   complete_audit = λ key ask program is made still. inr (inr (inr refl));
   complete_dap = λ ask program is made still. inr (inr (inr (inr refl)));
   complete_engine = λ address key ask program is made still. inr (inr (inr (inr refl)));
+  complete_async = λ address key ask program is made still. inr (inr (inr (inr refl)));
   refused = λ task ask why is asked makes. inr (inl refl);
   complete_show = λ is still. inr (inr (inr refl));
   script_refused = λ port line script is told bad. inr (inl refl);
@@ -140,6 +143,7 @@ done_answers status words task old new asks plain carried = record {
       inl (audits_well status words task old new asks carried.ends key ask is);
   complete_dap = λ ask program is made still. inl carried.status;
   complete_engine = λ address key ask program is made still. inl carried.status;
+  complete_async = λ address key ask program is made still. inl carried.status;
   refused = λ other ask why is asked makes.
       absurd ((carried.held ask (asks_program words task other ask asks is asked)).by_files (Err why) makes);
   complete_show = λ is still. inl (shows_well status words task old new asks carried.ends is);
@@ -230,6 +234,9 @@ module _ (status : ℕ) (words : List (List ℕ)) (task : Task) (refused : Refus
         (still_before still);
     complete_engine = λ address key ask program is made still.
         complete_engine_told status words task old mid refused _ _ asks carried.ends carried.held told address key ask
+        program is made (still_before still);
+    complete_async = λ address key ask program is made still.
+        complete_async_told status words task old mid refused _ _ asks carried.ends carried.held told address key ask
         program is made (still_before still);
     refused = λ other ask why is asked makes.
         refused_told status old.shelf.faults new.shelf.faults refused.failure _ _ told

@@ -14,6 +14,7 @@ pub mod Sources
 pub mod Statuses
 pub mod Talk
 pub mod Dap
+pub mod Async
 pub mod Tasks
 pub mod Top
 pub mod inner

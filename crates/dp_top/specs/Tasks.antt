@@ -6,8 +6,9 @@ use Rattle.dp_show.specs.declared.errors.ShowError.TheVariants as ends
 use Rattle.dp_show.specs.Shows.{Shows, Ends}
 use Rattle.dp_top.specs.declared.failures.Failure.{Failure}
 use Rattle.dp_top.specs.declared.failures.Failure.TheVariants.{TooLong, Source, ShelfFailed, NoFile, Fatal, Bound, Output, Script, Differs, PeerEnd, Packet, Network, Stopped, Lies, Memory}
-use Rattle.dp_words.specs.Words.{Task, run, talk, tape, audit, dap, engine, ide, replay, soak, proxy, show, IsInvocation, invocation_in}
+use Rattle.dp_words.specs.Words.{Task, run, talk, tape, audit, dap, engine, async, ide, replay, soak, proxy, show, IsInvocation, invocation_in}
 use Rattle.dp_relay.specs.Relays.{faults}
+use Rattle.dp_top.specs.Async.{AsyncFails, Listens}
 use Rattle.dp_top.specs.Dap.{Daps, DapFails}
 use Rattle.dp_top.specs.Engine.{Engages, EngineFails}
 use Rattle.dp_top.specs.Ide.{Plays, IdeFails}
@@ -70,6 +71,7 @@ Does status (tape key ask) old new = Tapes status key ask old new × IsOffline o
 Does status (audit key ask) old new = Audits status key ask old new × IsOffline old new
 Does status (dap ask) old new = Daps status ask old new × IsOffline old new
 Does status (engine address key ask) old new = Engages status address key ask old new
+Does status (async address key ask) old new = Listens status address key ask old new
 Does status (ide port script) old new = Plays status port script old new
 Does status (replay events ask) old new =
     DoesReplay status events ask old.shelf.files (changed old.out new.out)
@@ -100,6 +102,8 @@ Caused failure name (audit key ask) old new =
 Caused failure name (dap ask) old new = DapFails failure name ask old new × IsOffline old new
 Caused failure name (engine address key ask) old new =
     EngineFails failure name address key ask old new
+Caused failure name (async address key ask) old new =
+    AsyncFails failure name address key ask old new
 Caused failure name (ide port script) old new = IdeFails failure name port script old new
 Caused failure name (replay events ask) old new =
     ReplayFails failure name events ask old.shelf.files old.shelf.faults new.shelf.faults

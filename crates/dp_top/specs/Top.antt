@@ -6,7 +6,7 @@ use Rattle.dp_ide.specs.declared.instruction.Instruction.{Instruction}
 use Rattle.dp_events.specs.declared.event.Event.{Event}
 use Rattle.dp_program.specs.Programs.{FilesMake}
 use Rattle.dp_tree.specs.declared.bundle.Bundle.{Bundle}
-use Rattle.dp_words.specs.Words.{Address, Invocation, IsAudit, IsDap, IsEngine, IsIde, IsInvocation, IsProxy, IsReplay, Service}
+use Rattle.dp_words.specs.Words.{Address, Invocation, IsAsync, IsAudit, IsDap, IsEngine, IsIde, IsInvocation, IsProxy, IsReplay, Service}
 use Rattle.dp_words.specs.Words.{IsRun, IsSoak, IsTalk, IsTape, Task, show, invocation_in, uses_net, uses_shelf, uses_spawner}
 use Rattle.dp_words.specs.Plain.{are_plain}
 use Rattle.dp_top.specs.Failures.{Says}
@@ -77,6 +77,12 @@ pub record Answers (status : ℕ) (words : List (List ℕ)) (old new : Seen) : T
       → FilesMake old.shelf.files ask.names (Ok program) → NoneRose old new
       → (status ≤ exit_limit) ⊎ (status ≡ packet_status) ⊎ (status ≡ killed_status)
       ⊎ (status ≡ unfinished_status) ⊎ (status ≡ memory_status)
+  -- Likewise of a session that listens.
+  pub complete_async : (address : Address) (key : List ℕ) (ask : Invocation) (program : Bundle)
+      → IsAsync words address key ask
+      → FilesMake old.shelf.files ask.names (Ok program) → NoneRose old new
+      → (status ≤ exit_limit) ⊎ (status ≡ packet_status) ⊎ (status ≡ killed_status)
+      ⊎ (status ≡ unfinished_status) ⊎ (status ≡ memory_status)
   -- Where they make none, that is reported, unless the shelf fails first.
   pub refused : (task : Task) (ask : Invocation) (why : BundleError) → IsInvocation words task
       → invocation_in task ≡ Some ask → FilesMake old.shelf.files ask.names (Err why)
@@ -141,9 +147,9 @@ pub record Answers (status : ℕ) (words : List (List ℕ)) (old new : Seen) : T
   pub fetched : (task : Task) → IsInvocation words task
       → IsFetchedFor task old.shelf.fetched new.shelf.fetched
   pub files : new.shelf.files ≡ old.shelf.files
-  -- The network is used by `engine`, `ide` and `proxy` alone.
+  -- The network is used by `engine`, `async`, `ide` and `proxy` alone.
   pub offline : (task : Task) → IsInvocation words task → uses_net task ≡ false → IsOffline old new
-  -- Threads are started by `proxy` alone.
+  -- Threads are started by `async` and `proxy` alone.
   pub unspawned : (task : Task) → IsInvocation words task → uses_spawner task ≡ false
       → new.spawner ≡ old.spawner
   -- No count of faults falls.

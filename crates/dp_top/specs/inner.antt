@@ -1,5 +1,6 @@
 -- What only proofs use. No clause of the top call cites these.
 pub mod BadLines
+pub mod Attended
 pub mod Dialled
 pub mod Gated
 pub mod Gateways

@@ -15,6 +15,7 @@ use crate::dap::dap;
 use crate::engine::engine;
 use crate::failures::{Failure, Refused};
 use crate::ide::ide;
+use crate::listener::listening;
 use crate::objects::Objects;
 use crate::proxy::proxy;
 use crate::records::{audit, tape};
@@ -107,6 +108,7 @@ pub(crate) fn carry_out<
         Command::Audit(request) => audit(alloc, request, objects),
         Command::Dap(program) => dap(alloc, program, objects),
         Command::Engine(request) => engine(alloc, request, objects),
+        Command::Async(request) => listening(rt, alloc, request, objects),
         Command::Ide(request) => ide(rt, alloc, request, objects),
         Command::Replay(request) => replay(alloc, request, objects.shelf, objects.out),
         Command::Soak(request) => soak(alloc, request, objects.out),

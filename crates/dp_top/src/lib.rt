@@ -8,6 +8,7 @@ mod engines;
 mod failures;
 mod ide;
 mod lines;
+mod listener;
 mod numbers;
 mod objects;
 mod proxy;

@@ -3,6 +3,8 @@
 #![tactic(auto)]
 
 #[cfg(test)]
+mod breaks;
+#[cfg(test)]
 mod calls;
 #[cfg(test)]
 mod peers;

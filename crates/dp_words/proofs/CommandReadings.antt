@@ -9,12 +9,12 @@ use Rattle.clap.specs.Kinds.{Kinds, or_else}
 use Rattle.clap.specs.Faults.{fault_of}
 use Rattle.clap.specs.Simple.{Shape, subcommand_of}
 use Rattle.clap.specs.Walk.{Row, Text}
-use Rattle.dp_words.specs.Words.{Invocation, IsInvocation, Task, run, talk, tape, audit, dap, engine, ide, replay, soak, proxy, show, invocation_of, default_bound, with_bound}
+use Rattle.dp_words.specs.Words.{Invocation, IsInvocation, Task, run, talk, tape, audit, dap, engine, async, ide, replay, soak, proxy, show, invocation_of, default_bound, with_bound}
 use Rattle.dp_words.specs.Plain.{has_bound, is_plain}
-use Rattle.dp_words.specs.inner.Given.{Given, engine_given, ide_given, proxy_given, replay_given, run_given, show_given, soak_given, talk_given, tape_given, audit_given, dap_given, are_plain_in, requested, bound_given, bounded, name_in, row, rows_in, words_in}
+use Rattle.dp_words.specs.inner.Given.{Given, engine_given, async_given, ide_given, proxy_given, replay_given, run_given, show_given, soak_given, talk_given, tape_given, audit_given, dap_given, are_plain_in, requested, bound_given, bounded, name_in, row, rows_in, words_in}
 use Rattle.dp_words.specs.inner.Shapes.{engine_words, program, replay_words, talk_words}
 use Rattle.dp_words.proofs.Leaves.{HasFault, I, P, S, TakesFiles, alone, begun, both, engine_lacks_1, engine_lacks_2, engine_lacks_3, engine_lacks_4, engine_read, engine_rows, engine_takes, fault, few, files, ide_fine, ide_found, ide_lacks_1, ide_lacks_2, ide_over, is_plain_bound, level, many, pass_bound, Passes, proxy_fine, proxy_found, proxy_lacks_1, proxy_lacks_2, proxy_lacks_3, proxy_lacks_4, proxy_over, relay, replay_lacks_1, replay_lacks_2, replay_read, replay_rows, replay_takes, rows_at_end, run_lacks_1, run_read, run_rows, run_takes, show_fine, show_over, soak_fine, soak_found, soak_lacks_1, soak_lacks_2, soak_over, talk_lacks_1, talk_lacks_2, talk_read, talk_rows, talk_takes, too_many, wanting}
-use Rattle.dp_words.proofs.Programs.{Known, fault_known, rows_known, run_known, talk_known, tape_known, audit_known, dap_known, engine_known, ide_known, replay_known, soak_known, proxy_known, show_known, names}
+use Rattle.dp_words.proofs.Programs.{Known, fault_known, rows_known, run_known, talk_known, tape_known, audit_known, dap_known, engine_known, async_known, ide_known, replay_known, soak_known, proxy_known, show_known, names}
 
 -- ---- what tasks want
 
@@ -25,6 +25,7 @@ name_of (tape key ask) = codes "tape"
 name_of (audit key ask) = codes "audit"
 name_of (dap ask) = codes "dap"
 name_of (engine address key ask) = codes "engine"
+name_of (async address key ask) = codes "async"
 name_of (ide port script) = codes "ide"
 name_of (replay events ask) = codes "replay"
 name_of (soak count seed) = codes "soak"
@@ -40,6 +41,7 @@ named words (tape key ask) h = (h.behind, h.words_are)
 named words (audit key ask) h = (h.behind, h.words_are)
 named words (dap ask) h = (h.behind, h.words_are)
 named words (engine address key ask) h = (h.behind, h.words_are)
+named words (async address key ask) h = (h.behind, h.words_are)
 named words (ide port script) h = (h.number ∷ script ∷ [], h.words_are)
 named words (replay events ask) h = (h.behind, h.words_are)
 named words (soak count seed) h = (h.number ∷ h.drawn ∷ [], h.words_are)
@@ -61,7 +63,8 @@ module _ (name : Text) (behind : List Text) (task : Task) (asks : IsInvocation (
 abbrev pub least : Text → ℕ
 least name =
     if bytes_eq name (codes "talk") || bytes_eq name (codes "tape") || bytes_eq name (codes "audit")
-    then 2 else (if bytes_eq name (codes "engine") then 4 else (if bytes_eq name (codes "replay") then 2 else 1))
+    then 2 else (if bytes_eq name (codes "engine") || bytes_eq name (codes "async") then 4
+    else (if bytes_eq name (codes "replay") then 2 else 1))
 
 -- so many words stand behind it
 pub record IsCounted (name : Text) (behind : List Text) : Type 0 where
@@ -101,6 +104,14 @@ counted_for (audit key ask) words h b =
 counted_for (dap ask) words h b =
     record { ask = ask; asks = h.follows.invocation; enough = h.follows.files.some; few = h.follows.files.few }
 counted_for (engine address key ask) words h b =
+    let f = h.dials.session.files in
+    record {
+      ask = record { bound = ask.bound; names = address.host ∷ h.dials.number ∷ key ∷ ask.names };
+      asks = h.dials.invocation;
+      enough = omega (arith, f.some);
+      few = omega (arith, f.few);
+    }
+counted_for (async address key ask) words h b =
     let f = h.dials.session.files in
     record {
       ask = record { bound = ask.bound; names = address.host ∷ h.dials.number ∷ key ∷ ask.names };
@@ -408,6 +419,53 @@ engine_reads bound (h ∷ p ∷ k ∷ f ∷ fs) hb hs =
     (engine_given bound h p k (f ∷ fs)) refl hs refl refl
     (λ large. outside (codes "engine") bound (h ∷ p ∷ k ∷ f ∷ fs) 4 refl refl hs (inr (omega (arith, large))))
 
+-- ---- `async`
+
+pub async_reads : (bound : Option Text) (words : List Text) → is_plain_bound bound ≡ true
+    → list_all is_plain words ≡ true
+    → Reading (codes "async" ∷ bounded bound words)
+async_reads bound [] hb hs =
+    inr (
+      faulty (codes "async") (P (codes "async") engine_words) async_known (bounded bound []) wanting tt
+          (engine_lacks_4 (codes "async") bound hb),
+      outside (codes "async") bound [] 4 refl refl hs (inl (omega arith)),
+    )
+async_reads bound (h ∷ []) hb hs =
+    let q0 = both (is_plain h) (list_all is_plain []) hs in
+    inr (
+      faulty (codes "async") (P (codes "async") engine_words) async_known (bounded bound (h ∷ [])) wanting tt
+          (engine_lacks_3 (codes "async") bound h hb q0.0),
+      outside (codes "async") bound (h ∷ []) 4 refl refl hs (inl (omega arith)),
+    )
+async_reads bound (h ∷ p ∷ []) hb hs =
+    let q0 = both (is_plain h) (list_all is_plain (p ∷ [])) hs in
+    let q1 = both (is_plain p) (list_all is_plain []) q0.1 in
+    inr (
+      faulty (codes "async") (P (codes "async") engine_words) async_known (bounded bound (h ∷ p ∷ [])) wanting tt
+          (engine_lacks_2 (codes "async") bound h p hb q0.0 q1.0),
+      outside (codes "async") bound (h ∷ p ∷ []) 4 refl refl hs (inl (omega arith)),
+    )
+async_reads bound (h ∷ p ∷ k ∷ []) hb hs =
+    let q0 = both (is_plain h) (list_all is_plain (p ∷ k ∷ [])) hs in
+    let q1 = both (is_plain p) (list_all is_plain (k ∷ [])) q0.1 in
+    let q2 = both (is_plain k) (list_all is_plain []) q1.1 in
+    inr (
+      faulty (codes "async") (P (codes "async") engine_words) async_known (bounded bound (h ∷ p ∷ k ∷ []))
+          wanting tt
+          (engine_lacks_1 (codes "async") bound h p k hb q0.0 q1.0 q2.0),
+      outside (codes "async") bound (h ∷ p ∷ k ∷ []) 4 refl refl hs (inl (omega arith)),
+    )
+async_reads bound (h ∷ p ∷ k ∷ f ∷ fs) hb hs =
+    let q0 = both (is_plain h) (list_all is_plain (p ∷ k ∷ f ∷ fs)) hs in
+    let q1 = both (is_plain p) (list_all is_plain (k ∷ f ∷ fs)) q0.1 in
+    let q2 = both (is_plain k) (list_all is_plain (f ∷ fs)) q1.1 in
+    let q3 = both (is_plain f) (list_all is_plain fs) q2.1 in
+    files_reads (codes "async") engine_words async_known bound (h ∷ p ∷ k ∷ []) 4 (engine_rows bound h p k)
+    (engine_takes (codes "async") bound h p k) f fs hb
+    (engine_read (codes "async") bound h p k f fs q0.0 q1.0 q2.0 q3.0 q3.1)
+    (async_given bound h p k (f ∷ fs)) refl hs refl refl
+    (λ large. outside (codes "async") bound (h ∷ p ∷ k ∷ f ∷ fs) 4 refl refl hs (inr (omega (arith, large))))
+
 -- ---- `replay`
 
 pub replay_reads : (bound : Option Text) (words : List Text) → is_plain_bound bound ≡ true
@@ -451,6 +509,7 @@ plain_behind (tape key ask) words h e = absurd cc
 plain_behind (audit key ask) words h e = absurd cc
 plain_behind (dap ask) words h e = absurd cc
 plain_behind (engine address key ask) words h e = absurd cc
+plain_behind (async address key ask) words h e = absurd cc
 plain_behind (ide port script) words h e = refl
 plain_behind (replay events ask) words h e = absurd cc
 plain_behind (soak count seed) words h e = refl

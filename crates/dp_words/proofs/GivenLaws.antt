@@ -1,5 +1,5 @@
 -- What the matches of a command hold says what is asked for.
-use Rattle.std.proofs.Common.{◌≡◌, ℕ, ◌+◌, ◌*◌, ◌-◌, List, [], ◌∷◌, ◌++◌, map, drop, Option, Some, None, Box, refl, sym, ap, ◌∙◌, subst, arith, codes, String, string_bytes, Global}
+use Rattle.std.proofs.Common.{◌≡◌, ℕ, ◌+◌, ◌*◌, List, [], ◌∷◌, ◌++◌, map, drop, Option, Some, None, Box, refl, sym, ap, ◌∙◌, subst, arith, codes, String, string_bytes, Global}
 use Rattle.std.specs.Prelude.{get_or, option_and_then}
 use Rattle.std.specs.Option.{option_map, option_map_or}
 use Rattle.std.specs.Box.{box_value}
@@ -10,11 +10,11 @@ use Rattle.clap.specs.declared.parser.matches.ArgMatches.TheViews.{out-ArgMatche
 use Rattle.clap.specs.declared.parser.matches.SubCommand.{SubCommand}
 use Rattle.clap.specs.Walk.{Row, Text, first_of}
 use Rattle.dp_value.specs.Decimals.{decimal_in}
-use Rattle.dp_words.specs.Words.{Address, AreFileWords, Invocation, IsFileWord, IsHostWord, IsInvocation, IsSession, Task, run, talk, tape, audit, dap, engine, ide, replay, soak, proxy, show, Service, invocation_of, port_of, seed_limit, served_count_of, session_count_of}
-use Rattle.dp_words.specs.inner.Given.{Given, engine_given, ide_given, proxy_given, replay_given, run_given, show_given, soak_given, talk_given, tape_given, audit_given, dap_given, requested, bound_given, bound_in, bounded, files_in, first_in, name_in, rows_in, words_in, are_plain_in}
+use Rattle.dp_words.specs.Words.{AreFileWords, Invocation, IsFileWord, IsInvocation, Task, run, talk, tape, audit, dap, engine, async, ide, replay, soak, proxy, show, Service, invocation_of, port_of, seed_limit, served_count_of, session_count_of}
+use Rattle.dp_words.specs.inner.Given.{Given, engine_given, async_given, ide_given, proxy_given, replay_given, run_given, show_given, soak_given, talk_given, tape_given, audit_given, dap_given, requested, bound_given, bound_in, bounded, files_in, first_in, name_in, rows_in, words_in, are_plain_in}
 use Rattle.dp_words.specs.inner.Rows.{AreRows, IsGiven, program_in}
 use Rattle.dp_words.proofs.CommandReadings.{invoked, named, name_of}
-use Rattle.dp_words.proofs.RowLaws.{count_is, events_of_replay, host_of_engine, key_of_engine, port_of_engine, program_is}
+use Rattle.dp_words.proofs.RowLaws.{count_is, events_of_replay, program_is}
 
 -- ---- the bound and the names
 
@@ -120,6 +120,8 @@ module _ (words : List (String Global)) (name : Text) (rows : List Row) (i : IsG
       by (dap_given x0 x1) at = absurd (omega (arith, differs (codes "run") (dap_given x0 x1) at is))
       by (engine_given x0 x1 x2 x3 x4) at =
           absurd (omega (arith, differs (codes "run") (engine_given x0 x1 x2 x3 x4) at is))
+      by (async_given x0 x1 x2 x3 x4) at =
+          absurd (omega (arith, differs (codes "run") (async_given x0 x1 x2 x3 x4) at is))
       by (ide_given x0 x1) at = absurd (omega (arith, differs (codes "run") (ide_given x0 x1) at is))
       by (replay_given x0 x1 x2) at = absurd (omega (arith, differs (codes "run") (replay_given x0 x1 x2) at is))
       by (soak_given x0 x1) at = absurd (omega (arith, differs (codes "run") (soak_given x0 x1) at is))
@@ -145,6 +147,7 @@ module _ (words : List (String Global)) (name : Text) (rows : List Row) (i : IsG
         by_task (audit k asking) asks = omega (arith, clashes (codes "run") (audit k asking) is asks)
         by_task (dap asking) asks = omega (arith, clashes (codes "run") (dap asking) is asks)
         by_task (engine a k asking) asks = omega (arith, clashes (codes "run") (engine a k asking) is asks)
+        by_task (async a k asking) asks = omega (arith, clashes (codes "run") (async a k asking) is asks)
         by_task (ide n s) asks = omega (arith, clashes (codes "run") (ide n s) is asks)
         by_task (replay e asking) asks = omega (arith, clashes (codes "run") (replay e asking) is asks)
         by_task (soak n d) asks = omega (arith, clashes (codes "run") (soak n d) is asks)
@@ -156,6 +159,8 @@ module _ (words : List (String Global)) (name : Text) (rows : List Row) (i : IsG
       by (dap_given x0 x1) at = absurd (omega (arith, differs (codes "run") (dap_given x0 x1) at is))
       by (engine_given x0 x1 x2 x3 x4) at =
           absurd (omega (arith, differs (codes "run") (engine_given x0 x1 x2 x3 x4) at is))
+      by (async_given x0 x1 x2 x3 x4) at =
+          absurd (omega (arith, differs (codes "run") (async_given x0 x1 x2 x3 x4) at is))
       by (ide_given x0 x1) at = absurd (omega (arith, differs (codes "run") (ide_given x0 x1) at is))
       by (replay_given x0 x1 x2) at = absurd (omega (arith, differs (codes "run") (replay_given x0 x1 x2) at is))
       by (soak_given x0 x1) at = absurd (omega (arith, differs (codes "run") (soak_given x0 x1) at is))
@@ -183,6 +188,8 @@ module _ (words : List (String Global)) (name : Text) (rows : List Row) (i : IsG
       by (run_given x0 x1) at = absurd (omega (arith, differs (codes "dap") (run_given x0 x1) at is))
       by (engine_given x0 x1 x2 x3 x4) at =
           absurd (omega (arith, differs (codes "dap") (engine_given x0 x1 x2 x3 x4) at is))
+      by (async_given x0 x1 x2 x3 x4) at =
+          absurd (omega (arith, differs (codes "dap") (async_given x0 x1 x2 x3 x4) at is))
       by (ide_given x0 x1) at = absurd (omega (arith, differs (codes "dap") (ide_given x0 x1) at is))
       by (replay_given x0 x1 x2) at = absurd (omega (arith, differs (codes "dap") (replay_given x0 x1 x2) at is))
       by (soak_given x0 x1) at = absurd (omega (arith, differs (codes "dap") (soak_given x0 x1) at is))
@@ -208,6 +215,7 @@ module _ (words : List (String Global)) (name : Text) (rows : List Row) (i : IsG
         by_task (audit k asking) asks = omega (arith, clashes (codes "dap") (audit k asking) is asks)
         by_task (run asking) asks = omega (arith, clashes (codes "dap") (run asking) is asks)
         by_task (engine a k asking) asks = omega (arith, clashes (codes "dap") (engine a k asking) is asks)
+        by_task (async a k asking) asks = omega (arith, clashes (codes "dap") (async a k asking) is asks)
         by_task (ide n s) asks = omega (arith, clashes (codes "dap") (ide n s) is asks)
         by_task (replay e asking) asks = omega (arith, clashes (codes "dap") (replay e asking) is asks)
         by_task (soak n d) asks = omega (arith, clashes (codes "dap") (soak n d) is asks)
@@ -219,104 +227,14 @@ module _ (words : List (String Global)) (name : Text) (rows : List Row) (i : IsG
       by (run_given x0 x1) at = absurd (omega (arith, differs (codes "dap") (run_given x0 x1) at is))
       by (engine_given x0 x1 x2 x3 x4) at =
           absurd (omega (arith, differs (codes "dap") (engine_given x0 x1 x2 x3 x4) at is))
+      by (async_given x0 x1 x2 x3 x4) at =
+          absurd (omega (arith, differs (codes "dap") (async_given x0 x1 x2 x3 x4) at is))
       by (ide_given x0 x1) at = absurd (omega (arith, differs (codes "dap") (ide_given x0 x1) at is))
       by (replay_given x0 x1 x2) at = absurd (omega (arith, differs (codes "dap") (replay_given x0 x1 x2) at is))
       by (soak_given x0 x1) at = absurd (omega (arith, differs (codes "dap") (soak_given x0 x1) at is))
       by (proxy_given x0 x1 x2 x3) at =
           absurd (omega (arith, differs (codes "dap") (proxy_given x0 x1 x2 x3) at is))
       by show_given at = absurd (omega (arith, differs (codes "dap") show_given at is))
-
-    -- ---- `engine`
-
-    pub engine_found : name ≡ codes "engine" → (address : Address) (key : Text) (ask : Invocation)
-        → first_of (codes "HOST") rows ≡ Some address.host
-        → option_and_then port_of (first_of (codes "PORT") rows) ≡ Some address.port
-        → first_of (codes "KEY") rows ≡ Some key → program_in rows words ≡ Some ask
-        → IsHostWord address.host → IsSession key ask → IsInvocation all (engine address key ask)
-    engine_found is address key ask host_is port_is key_is program hosted session = by i.given refl where
-      by : (g : Given) → i.given ≡ g → IsInvocation all (engine address key ask)
-      by (engine_given bound h p k files) at =
-          let g = engine_given bound h p k files in
-          let same_host : h ≡ address.host = the_same h address.host
-          (sym (host_of_engine h p k files bound) ∙ ap (first_of (codes "HOST")) (sym (rows_at g at)) ∙ host_is) in
-          let same_key : k ≡ key = the_same k key
-          (sym (key_of_engine h p k files bound) ∙ ap (first_of (codes "KEY")) (sym (rows_at g at)) ∙ key_is) in
-          let ported : port_of p ≡ Some address.port =
-          sym (ap (λ (o : Option Text). option_and_then port_of o)
-          (ap (first_of (codes "PORT")) (rows_at g at) ∙ port_of_engine h p k files bound)) ∙ port_is in
-          subst (λ (x : Text). IsInvocation all (engine (record { host = x; port = address.port }) key ask)) same_host
-          (subst (λ (x : Text). IsInvocation all (engine (record { host = h; port = address.port }) x ask)) same_key
-          (record {
-            behind = bounded bound (h ∷ p ∷ k ∷ files);
-            words_are = words_at g at;
-            dials = record {
-              number = p;
-              invocation = invoked_at g at ∙ longer bound h (p ∷ k ∷ files) _ (longer bound p (k ∷ files) _
-                  (longer bound k files ask (sym (program_at g at) ∙ program)));
-              host = subst IsHostWord (sym same_host) hosted;
-              port = ported;
-              session = subst (λ (x : Text). IsSession x ask) (sym same_key) session;
-            };
-          }))
-      by (run_given x0 x1) at = absurd (omega (arith, differs (codes "engine") (run_given x0 x1) at is))
-      by (talk_given x0 x1 x2) at = absurd (omega (arith, differs (codes "engine") (talk_given x0 x1 x2) at is))
-      by (tape_given x0 x1 x2) at = absurd (omega (arith, differs (codes "engine") (tape_given x0 x1 x2) at is))
-      by (audit_given x0 x1 x2) at = absurd (omega (arith, differs (codes "engine") (audit_given x0 x1 x2) at is))
-      by (dap_given x0 x1) at = absurd (omega (arith, differs (codes "engine") (dap_given x0 x1) at is))
-      by (ide_given x0 x1) at = absurd (omega (arith, differs (codes "engine") (ide_given x0 x1) at is))
-      by (replay_given x0 x1 x2) at = absurd (omega (arith, differs (codes "engine") (replay_given x0 x1 x2) at is))
-      by (soak_given x0 x1) at = absurd (omega (arith, differs (codes "engine") (soak_given x0 x1) at is))
-      by (proxy_given x0 x1 x2 x3) at =
-          absurd (omega (arith, differs (codes "engine") (proxy_given x0 x1 x2 x3) at is))
-      by show_given at = absurd (omega (arith, differs (codes "engine") show_given at is))
-
-    pub engine_none : name ≡ codes "engine"
-        → ((host number key : Text) (port : ℕ) (ask : Invocation) → first_of (codes "HOST") rows ≡ Some host
-        → first_of (codes "PORT") rows ≡ Some number → first_of (codes "KEY") rows ≡ Some key
-        → program_in rows words ≡ Some ask → IsHostWord host → port_of number ≡ Some port → IsSession key ask → ⊥)
-        → (task : Task) → IsInvocation all task → ⊥
-    engine_none is none = by i.given refl where
-      by : (g : Given) → i.given ≡ g → (task : Task) → IsInvocation all task → ⊥
-      by (engine_given bound h p k files) at = by_task where
-        g : Given
-        g = engine_given bound h p k files
-
-        by_task : (task : Task) → IsInvocation all task → ⊥
-        by_task (engine address key ask) asks =
-            let d = asks.dials in
-            let one = shorter bound h address.host (p ∷ k ∷ files)
-            (record { bound = ask.bound; names = d.number ∷ key ∷ ask.names })
-            (sym (asked_by g at asks.behind asks.words_are) ∙ d.invocation) in
-            let two = shorter bound p d.number (k ∷ files) (record { bound = ask.bound; names = key ∷ ask.names })
-            one.1 in
-            let three = shorter bound k key files ask two.1 in
-            none h p k address.port ask
-            (ap (first_of (codes "HOST")) (rows_at g at) ∙ host_of_engine h p k files bound)
-            (ap (first_of (codes "PORT")) (rows_at g at) ∙ port_of_engine h p k files bound)
-            (ap (first_of (codes "KEY")) (rows_at g at) ∙ key_of_engine h p k files bound)
-            (program_at g at ∙ three.1) (subst IsHostWord (sym one.0) d.host) (ap port_of two.0 ∙ d.port)
-            (subst (λ (x : Text). IsSession x ask) (sym three.0) d.session)
-        by_task (run asking) asks = omega (arith, clashes (codes "engine") (run asking) is asks)
-        by_task (talk k asking) asks = omega (arith, clashes (codes "engine") (talk k asking) is asks)
-        by_task (tape k asking) asks = omega (arith, clashes (codes "engine") (tape k asking) is asks)
-        by_task (audit k asking) asks = omega (arith, clashes (codes "engine") (audit k asking) is asks)
-        by_task (dap asking) asks = omega (arith, clashes (codes "engine") (dap asking) is asks)
-        by_task (ide n s) asks = omega (arith, clashes (codes "engine") (ide n s) is asks)
-        by_task (replay e asking) asks = omega (arith, clashes (codes "engine") (replay e asking) is asks)
-        by_task (soak n d) asks = omega (arith, clashes (codes "engine") (soak n d) is asks)
-        by_task (proxy service) asks = omega (arith, clashes (codes "engine") (proxy service) is asks)
-        by_task show asks = omega (arith, clashes (codes "engine") show is asks)
-      by (run_given x0 x1) at = absurd (omega (arith, differs (codes "engine") (run_given x0 x1) at is))
-      by (talk_given x0 x1 x2) at = absurd (omega (arith, differs (codes "engine") (talk_given x0 x1 x2) at is))
-      by (tape_given x0 x1 x2) at = absurd (omega (arith, differs (codes "engine") (tape_given x0 x1 x2) at is))
-      by (audit_given x0 x1 x2) at = absurd (omega (arith, differs (codes "engine") (audit_given x0 x1 x2) at is))
-      by (dap_given x0 x1) at = absurd (omega (arith, differs (codes "engine") (dap_given x0 x1) at is))
-      by (ide_given x0 x1) at = absurd (omega (arith, differs (codes "engine") (ide_given x0 x1) at is))
-      by (replay_given x0 x1 x2) at = absurd (omega (arith, differs (codes "engine") (replay_given x0 x1 x2) at is))
-      by (soak_given x0 x1) at = absurd (omega (arith, differs (codes "engine") (soak_given x0 x1) at is))
-      by (proxy_given x0 x1 x2 x3) at =
-          absurd (omega (arith, differs (codes "engine") (proxy_given x0 x1 x2 x3) at is))
-      by show_given at = absurd (omega (arith, differs (codes "engine") show_given at is))
 
     -- ---- `ide`
 
@@ -346,6 +264,8 @@ module _ (words : List (String Global)) (name : Text) (rows : List Row) (i : IsG
       by (dap_given x0 x1) at = absurd (omega (arith, differs (codes "ide") (dap_given x0 x1) at is))
       by (engine_given x0 x1 x2 x3 x4) at =
           absurd (omega (arith, differs (codes "ide") (engine_given x0 x1 x2 x3 x4) at is))
+      by (async_given x0 x1 x2 x3 x4) at =
+          absurd (omega (arith, differs (codes "ide") (async_given x0 x1 x2 x3 x4) at is))
       by (replay_given x0 x1 x2) at = absurd (omega (arith, differs (codes "ide") (replay_given x0 x1 x2) at is))
       by (soak_given x0 x1) at = absurd (omega (arith, differs (codes "ide") (soak_given x0 x1) at is))
       by (proxy_given x0 x1 x2 x3) at =
@@ -378,6 +298,7 @@ module _ (words : List (String Global)) (name : Text) (rows : List Row) (i : IsG
         by_task (audit k asking) asks = omega (arith, clashes (codes "ide") (audit k asking) is asks)
         by_task (dap asking) asks = omega (arith, clashes (codes "ide") (dap asking) is asks)
         by_task (engine a k asking) asks = omega (arith, clashes (codes "ide") (engine a k asking) is asks)
+        by_task (async a k asking) asks = omega (arith, clashes (codes "ide") (async a k asking) is asks)
         by_task (replay e asking) asks = omega (arith, clashes (codes "ide") (replay e asking) is asks)
         by_task (soak n d) asks = omega (arith, clashes (codes "ide") (soak n d) is asks)
         by_task (proxy service) asks = omega (arith, clashes (codes "ide") (proxy service) is asks)
@@ -389,6 +310,8 @@ module _ (words : List (String Global)) (name : Text) (rows : List Row) (i : IsG
       by (dap_given x0 x1) at = absurd (omega (arith, differs (codes "ide") (dap_given x0 x1) at is))
       by (engine_given x0 x1 x2 x3 x4) at =
           absurd (omega (arith, differs (codes "ide") (engine_given x0 x1 x2 x3 x4) at is))
+      by (async_given x0 x1 x2 x3 x4) at =
+          absurd (omega (arith, differs (codes "ide") (async_given x0 x1 x2 x3 x4) at is))
       by (replay_given x0 x1 x2) at = absurd (omega (arith, differs (codes "ide") (replay_given x0 x1 x2) at is))
       by (soak_given x0 x1) at = absurd (omega (arith, differs (codes "ide") (soak_given x0 x1) at is))
       by (proxy_given x0 x1 x2 x3) at =
@@ -424,6 +347,8 @@ module _ (words : List (String Global)) (name : Text) (rows : List Row) (i : IsG
       by (dap_given x0 x1) at = absurd (omega (arith, differs (codes "replay") (dap_given x0 x1) at is))
       by (engine_given x0 x1 x2 x3 x4) at =
           absurd (omega (arith, differs (codes "replay") (engine_given x0 x1 x2 x3 x4) at is))
+      by (async_given x0 x1 x2 x3 x4) at =
+          absurd (omega (arith, differs (codes "replay") (async_given x0 x1 x2 x3 x4) at is))
       by (ide_given x0 x1) at = absurd (omega (arith, differs (codes "replay") (ide_given x0 x1) at is))
       by (soak_given x0 x1) at = absurd (omega (arith, differs (codes "replay") (soak_given x0 x1) at is))
       by (proxy_given x0 x1 x2 x3) at =
@@ -453,6 +378,7 @@ module _ (words : List (String Global)) (name : Text) (rows : List Row) (i : IsG
         by_task (audit k asking) asks = omega (arith, clashes (codes "replay") (audit k asking) is asks)
         by_task (dap asking) asks = omega (arith, clashes (codes "replay") (dap asking) is asks)
         by_task (engine a k asking) asks = omega (arith, clashes (codes "replay") (engine a k asking) is asks)
+        by_task (async a k asking) asks = omega (arith, clashes (codes "replay") (async a k asking) is asks)
         by_task (ide n s) asks = omega (arith, clashes (codes "replay") (ide n s) is asks)
         by_task (soak n d) asks = omega (arith, clashes (codes "replay") (soak n d) is asks)
         by_task (proxy service) asks = omega (arith, clashes (codes "replay") (proxy service) is asks)
@@ -464,6 +390,8 @@ module _ (words : List (String Global)) (name : Text) (rows : List Row) (i : IsG
       by (dap_given x0 x1) at = absurd (omega (arith, differs (codes "replay") (dap_given x0 x1) at is))
       by (engine_given x0 x1 x2 x3 x4) at =
           absurd (omega (arith, differs (codes "replay") (engine_given x0 x1 x2 x3 x4) at is))
+      by (async_given x0 x1 x2 x3 x4) at =
+          absurd (omega (arith, differs (codes "replay") (async_given x0 x1 x2 x3 x4) at is))
       by (ide_given x0 x1) at = absurd (omega (arith, differs (codes "replay") (ide_given x0 x1) at is))
       by (soak_given x0 x1) at = absurd (omega (arith, differs (codes "replay") (soak_given x0 x1) at is))
       by (proxy_given x0 x1 x2 x3) at =
@@ -496,6 +424,8 @@ module _ (words : List (String Global)) (name : Text) (rows : List Row) (i : IsG
       by (dap_given x0 x1) at = absurd (omega (arith, differs (codes "soak") (dap_given x0 x1) at is))
       by (engine_given x0 x1 x2 x3 x4) at =
           absurd (omega (arith, differs (codes "soak") (engine_given x0 x1 x2 x3 x4) at is))
+      by (async_given x0 x1 x2 x3 x4) at =
+          absurd (omega (arith, differs (codes "soak") (async_given x0 x1 x2 x3 x4) at is))
       by (ide_given x0 x1) at = absurd (omega (arith, differs (codes "soak") (ide_given x0 x1) at is))
       by (replay_given x0 x1 x2) at = absurd (omega (arith, differs (codes "soak") (replay_given x0 x1 x2) at is))
       by (proxy_given x0 x1 x2 x3) at =
@@ -528,6 +458,7 @@ module _ (words : List (String Global)) (name : Text) (rows : List Row) (i : IsG
         by_task (audit k asking) asks = omega (arith, clashes (codes "soak") (audit k asking) is asks)
         by_task (dap asking) asks = omega (arith, clashes (codes "soak") (dap asking) is asks)
         by_task (engine a k asking) asks = omega (arith, clashes (codes "soak") (engine a k asking) is asks)
+        by_task (async a k asking) asks = omega (arith, clashes (codes "soak") (async a k asking) is asks)
         by_task (ide n s) asks = omega (arith, clashes (codes "soak") (ide n s) is asks)
         by_task (replay e asking) asks = omega (arith, clashes (codes "soak") (replay e asking) is asks)
         by_task (proxy service) asks = omega (arith, clashes (codes "soak") (proxy service) is asks)
@@ -539,6 +470,8 @@ module _ (words : List (String Global)) (name : Text) (rows : List Row) (i : IsG
       by (dap_given x0 x1) at = absurd (omega (arith, differs (codes "soak") (dap_given x0 x1) at is))
       by (engine_given x0 x1 x2 x3 x4) at =
           absurd (omega (arith, differs (codes "soak") (engine_given x0 x1 x2 x3 x4) at is))
+      by (async_given x0 x1 x2 x3 x4) at =
+          absurd (omega (arith, differs (codes "soak") (async_given x0 x1 x2 x3 x4) at is))
       by (ide_given x0 x1) at = absurd (omega (arith, differs (codes "soak") (ide_given x0 x1) at is))
       by (replay_given x0 x1 x2) at = absurd (omega (arith, differs (codes "soak") (replay_given x0 x1 x2) at is))
       by (proxy_given x0 x1 x2 x3) at =
@@ -579,6 +512,8 @@ module _ (words : List (String Global)) (name : Text) (rows : List Row) (i : IsG
       by (dap_given x0 x1) at = absurd (omega (arith, differs (codes "proxy") (dap_given x0 x1) at is))
       by (engine_given x0 x1 x2 x3 x4) at =
           absurd (omega (arith, differs (codes "proxy") (engine_given x0 x1 x2 x3 x4) at is))
+      by (async_given x0 x1 x2 x3 x4) at =
+          absurd (omega (arith, differs (codes "proxy") (async_given x0 x1 x2 x3 x4) at is))
       by (ide_given x0 x1) at = absurd (omega (arith, differs (codes "proxy") (ide_given x0 x1) at is))
       by (replay_given x0 x1 x2) at = absurd (omega (arith, differs (codes "proxy") (replay_given x0 x1 x2) at is))
       by (soak_given x0 x1) at = absurd (omega (arith, differs (codes "proxy") (soak_given x0 x1) at is))
@@ -617,6 +552,7 @@ module _ (words : List (String Global)) (name : Text) (rows : List Row) (i : IsG
         by_task (audit k asking) asks = omega (arith, clashes (codes "proxy") (audit k asking) is asks)
         by_task (dap asking) asks = omega (arith, clashes (codes "proxy") (dap asking) is asks)
         by_task (engine a k asking) asks = omega (arith, clashes (codes "proxy") (engine a k asking) is asks)
+        by_task (async a k asking) asks = omega (arith, clashes (codes "proxy") (async a k asking) is asks)
         by_task (ide n s) asks = omega (arith, clashes (codes "proxy") (ide n s) is asks)
         by_task (replay e asking) asks = omega (arith, clashes (codes "proxy") (replay e asking) is asks)
         by_task (soak n d) asks = omega (arith, clashes (codes "proxy") (soak n d) is asks)
@@ -628,6 +564,8 @@ module _ (words : List (String Global)) (name : Text) (rows : List Row) (i : IsG
       by (dap_given x0 x1) at = absurd (omega (arith, differs (codes "proxy") (dap_given x0 x1) at is))
       by (engine_given x0 x1 x2 x3 x4) at =
           absurd (omega (arith, differs (codes "proxy") (engine_given x0 x1 x2 x3 x4) at is))
+      by (async_given x0 x1 x2 x3 x4) at =
+          absurd (omega (arith, differs (codes "proxy") (async_given x0 x1 x2 x3 x4) at is))
       by (ide_given x0 x1) at = absurd (omega (arith, differs (codes "proxy") (ide_given x0 x1) at is))
       by (replay_given x0 x1 x2) at = absurd (omega (arith, differs (codes "proxy") (replay_given x0 x1 x2) at is))
       by (soak_given x0 x1) at = absurd (omega (arith, differs (codes "proxy") (soak_given x0 x1) at is))
@@ -637,9 +575,10 @@ module _ (words : List (String Global)) (name : Text) (rows : List Row) (i : IsG
 
     pub show_found : (name ≡ codes "run" → ⊥) → (name ≡ codes "talk" → ⊥) → (name ≡ codes "tape" → ⊥)
         → (name ≡ codes "audit" → ⊥) → (name ≡ codes "dap" → ⊥) → (name ≡ codes "engine" → ⊥)
+        → (name ≡ codes "async" → ⊥)
         → (name ≡ codes "ide" → ⊥) → (name ≡ codes "replay" → ⊥) → (name ≡ codes "soak" → ⊥)
         → (name ≡ codes "proxy" → ⊥) → IsInvocation all show
-    show_found a b t u w c d e f p = by i.given refl where
+    show_found a b t u w c x d e f p = by i.given refl where
       by : (g : Given) → i.given ≡ g → IsInvocation all show
       by show_given at = words_at show_given at
       by (run_given bound files) at = absurd (a (i.name_is ∙ ap name_in at))
@@ -648,6 +587,7 @@ module _ (words : List (String Global)) (name : Text) (rows : List Row) (i : IsG
       by (audit_given bound key files) at = absurd (u (i.name_is ∙ ap name_in at))
       by (dap_given bound files) at = absurd (w (i.name_is ∙ ap name_in at))
       by (engine_given bound host port key files) at = absurd (c (i.name_is ∙ ap name_in at))
+      by (async_given bound host port key files) at = absurd (x (i.name_is ∙ ap name_in at))
       by (ide_given port script) at = absurd (d (i.name_is ∙ ap name_in at))
       by (replay_given bound events files) at = absurd (e (i.name_is ∙ ap name_in at))
       by (soak_given count seed) at = absurd (f (i.name_is ∙ ap name_in at))

@@ -5,4 +5,5 @@ pub mod CommandReadings
 pub mod Readings
 pub mod RowLaws
 pub mod GivenLaws
+pub mod AddressLaws
 pub mod SessionLaws

@@ -91,6 +91,10 @@ pub engine_known : Known (codes "engine") (P (codes "engine") engine_words)
 unfolding clap_on_literals
 engine_known = record { met_so = refl; taken = refl; found = λ b. refl; rows = λ b. refl }
 
+pub async_known : Known (codes "async") (P (codes "async") engine_words)
+unfolding clap_on_literals
+async_known = record { met_so = refl; taken = refl; found = λ b. refl; rows = λ b. refl }
+
 pub ide_known : Known (codes "ide") (I (codes "ide"))
 unfolding clap_on_literals
 ide_known = record { met_so = refl; taken = refl; found = λ b. refl; rows = λ b. refl }

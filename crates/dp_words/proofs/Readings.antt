@@ -8,13 +8,13 @@ use Rattle.std.proofs.lemmas.Slice.Eq.{bytes_eq-Decides}
 use Rattle.std.proofs.lemmas.Bool.Decides.{nat_tests}
 use Rattle.clap.specs.Walk.{Text, answers_to}
 use Rattle.dp_outside.specs.Names.{IsKey}
-use Rattle.dp_words.specs.Words.{Invocation, IsInvocation, Task, IsFileWord, run, talk, tape, audit, dap, engine, ide, replay, soak, proxy, show, invocation_of, bound_limit, bound_of, default_bound, is_option, not_zero, port_limit, port_of, seed_limit, served_count_of, served_limit, session_count_of, soak_limit, with_bound}
+use Rattle.dp_words.specs.Words.{Invocation, IsInvocation, Task, IsFileWord, run, talk, tape, audit, dap, engine, async, ide, replay, soak, proxy, show, invocation_of, bound_limit, bound_of, default_bound, is_option, not_zero, port_limit, port_of, seed_limit, served_count_of, served_limit, session_count_of, soak_limit, with_bound}
 use Rattle.dp_value.specs.Decimals.{decimal_in}
 use Rattle.dp_words.specs.Plain.{are_bounded, are_plain, has_bound, is_plain}
 use Rattle.dp_words.specs.inner.Given.{bounded}
 use Rattle.dp_words.proofs.Leaves.{HasFault, both, files, is_plain_bound}
 use Rattle.dp_words.proofs.Programs.{names, no_words, unknown}
-use Rattle.dp_words.proofs.CommandReadings.{Reading, audit_reads, dap_reads, engine_reads, ide_reads, name_of, named, proxy_reads, replay_reads, run_reads, same_name, show_reads, soak_reads, talk_reads, tape_reads}
+use Rattle.dp_words.proofs.CommandReadings.{Reading, async_reads, audit_reads, dap_reads, engine_reads, ide_reads, name_of, named, proxy_reads, replay_reads, run_reads, same_name, show_reads, soak_reads, talk_reads, tape_reads}
 
 no_command : (task : Task) → find (answers_to (name_of task)) names ≡ None → ⊥
 no_command (run ask) e = absurd cc
@@ -23,6 +23,7 @@ no_command (tape key ask) e = absurd cc
 no_command (audit key ask) e = absurd cc
 no_command (dap ask) e = absurd cc
 no_command (engine address key ask) e = absurd cc
+no_command (async address key ask) e = absurd cc
 no_command (ide port script) e = absurd cc
 no_command (replay events ask) e = absurd cc
 no_command (soak count seed) e = absurd cc
@@ -75,16 +76,17 @@ abbrev label : Text → Text × List Text
 label name = (name, [])
 
 -- the command that is found, by which names it has
-abbrev found_by : Bool → Bool → Bool → Bool → Bool → Bool → Bool → Bool → Bool → Bool → Bool
+abbrev found_by : Bool → Bool → Bool → Bool → Bool → Bool → Bool → Bool → Bool → Bool → Bool → Bool
     → Option (Text × List Text)
-found_by a b t u w c d e f g h =
+found_by a b t u w c x d e f g h =
     if a || false then Some (label (codes "run")) else (if b || false then Some (label (codes "talk"))
     else (if t || false then Some (label (codes "tape")) else (if u || false then Some (label (codes "audit"))
     else (if w || false then Some (label (codes "dap"))
-    else (if c || false then Some (label (codes "engine")) else (if d || false then Some (label (codes "ide"))
+    else (if c || false then Some (label (codes "engine")) else (if x || false then Some (label (codes "async"))
+    else (if d || false then Some (label (codes "ide"))
     else (if e || false then Some (label (codes "replay")) else (if f || false then Some (label (codes "soak"))
     else (if g || false then Some (label (codes "proxy")) else (if h || false then Some (label (codes "show"))
-    else None))))))))))
+    else None)))))))))))
 
 abbrev fits : Text → List Text → Type 0
 fits name behind = (if has_bound name then are_bounded behind else list_all is_plain behind) ≡ true
@@ -124,6 +126,9 @@ reads (name ∷ behind) h =
     choose (codes "engine") name
     (λ e. subst (λ n. fits n behind → Reading (n ∷ behind)) e
     (λ f. split_reads (codes "engine") behind f engine_reads) parts.1) (λ no_engine.
+    choose (codes "async") name
+    (λ e. subst (λ n. fits n behind → Reading (n ∷ behind)) e
+    (λ f. split_reads (codes "async") behind f async_reads) parts.1) (λ no_async.
     choose (codes "ide") name
     (λ e. subst (λ n. fits n behind → Reading (n ∷ behind)) e (λ f. ide_reads behind f) parts.1) (λ no_ide_name.
     choose (codes "replay") name
@@ -136,14 +141,14 @@ reads (name ∷ behind) h =
     choose (codes "show") name
     (λ e. subst (λ n. fits n behind → Reading (n ∷ behind)) e (λ f. show_reads behind f) parts.1) (λ no_show_name.
     let none : find (answers_to name) names ≡ None = λ i. found_by (no_run i) (no_talk i) (no_tape i) (no_audit i)
-    (no_dap i) (no_engine i)
+    (no_dap i) (no_engine i) (no_async i)
     (no_ide_name i)
     (no_replay i) (no_soak i) (no_proxy i) (no_show_name i) in
     inr (
       subst HasFault (sym (unknown name behind parts.0 none)) tt,
       λ task asks. no_command task (subst (λ (n : Text). find (answers_to n) names ≡ None)
           (same_name name behind task asks) none),
-    ))))))))))))
+    )))))))))))))
 
 -- ---- words that ask for something are plain
 
@@ -265,6 +270,13 @@ asks_behind (engine address key ask) words h b =
     (more_plain d.number (key ∷ ask.names) (port_plain d.number address.port d.port)
     (more_plain key ask.names (key_plain key d.session.is_key d.session.is_none)
     (files_plain ask.names d.session.files.named))))
+asks_behind (async address key ask) words h b =
+    let d = h.dials in
+    behind_plain h.behind _ d.invocation
+    (more_plain address.host (d.number ∷ key ∷ ask.names) (plain_if address.host d.host.is_host.some d.host.is_none)
+    (more_plain d.number (key ∷ ask.names) (port_plain d.number address.port d.port)
+    (more_plain key ask.names (key_plain key d.session.is_key d.session.is_none)
+    (files_plain ask.names d.session.files.named))))
 asks_behind (replay events ask) words h b =
     behind_plain h.behind _ h.replays.invocation
     (more_plain events ask.names (plain_if events h.replays.is_events.is_name.some h.replays.is_events.is_none)
@@ -282,6 +294,8 @@ asks_plain words (audit key ask) h = ap are_plain h.words_are ∙ asks_behind (a
 asks_plain words (dap ask) h = ap are_plain h.words_are ∙ asks_behind (dap ask) words h refl
 asks_plain words (engine address key ask) h =
     ap are_plain h.words_are ∙ asks_behind (engine address key ask) words h refl
+asks_plain words (async address key ask) h =
+    ap are_plain h.words_are ∙ asks_behind (async address key ask) words h refl
 asks_plain words (ide port script) h =
     ap are_plain h.words_are
     ∙ more_plain h.number (script ∷ []) (port_plain h.number port h.is_port)

@@ -2,7 +2,7 @@
 use Rattle.std.proofs.Common.{◌≡◌, ℕ, ◌+◌, ◌≤◌, ◌-◌, List, [], ◌∷◌, ◌++◌, length, map, drop, Option, Some, None, refl, sym, ap, ap₂, ◌∙◌, arith, codes, String, string_bytes, Global}
 use Rattle.std.proofs.lemmas.List.{drop-map, length-append, length-map}
 use Rattle.clap.specs.Walk.{Row, Text, first_of}
-use Rattle.dp_words.specs.inner.Given.{Given, engine_given, ide_given, proxy_given, replay_given, run_given, show_given, soak_given, talk_given, tape_given, audit_given, dap_given, requested, bound_in, bounded, files_in, first_in, name_in, rows_in, words_in}
+use Rattle.dp_words.specs.inner.Given.{Given, engine_given, async_given, ide_given, proxy_given, replay_given, run_given, show_given, soak_given, talk_given, tape_given, audit_given, dap_given, requested, bound_in, bounded, files_in, first_in, name_in, rows_in, words_in}
 use Rattle.dp_words.specs.inner.Rows.{IsGiven, count_in, program_in}
 
 -- ---- what the rows hold
@@ -29,9 +29,13 @@ count_said (talk_given (Some n) key (f ∷ fs)) = refl
 count_said (tape_given (Some n) key (f ∷ fs)) = refl
 count_said (audit_given (Some n) key (f ∷ fs)) = refl
 count_said (engine_given None host port key []) = refl
+count_said (async_given None host port key []) = refl
 count_said (engine_given None host port key (f ∷ fs)) = refl
+count_said (async_given None host port key (f ∷ fs)) = refl
 count_said (engine_given (Some n) host port key []) = refl
+count_said (async_given (Some n) host port key []) = refl
 count_said (engine_given (Some n) host port key (f ∷ fs)) = refl
+count_said (async_given (Some n) host port key (f ∷ fs)) = refl
 count_said (replay_given None events []) = refl
 count_said (replay_given None events (f ∷ fs)) = refl
 count_said (replay_given (Some n) events []) = refl
@@ -63,9 +67,13 @@ bound_said (talk_given (Some n) key (f ∷ fs)) = refl
 bound_said (tape_given (Some n) key (f ∷ fs)) = refl
 bound_said (audit_given (Some n) key (f ∷ fs)) = refl
 bound_said (engine_given None host port key []) = refl
+bound_said (async_given None host port key []) = refl
 bound_said (engine_given None host port key (f ∷ fs)) = refl
+bound_said (async_given None host port key (f ∷ fs)) = refl
 bound_said (engine_given (Some n) host port key []) = refl
+bound_said (async_given (Some n) host port key []) = refl
 bound_said (engine_given (Some n) host port key (f ∷ fs)) = refl
+bound_said (async_given (Some n) host port key (f ∷ fs)) = refl
 bound_said (replay_given None events []) = refl
 bound_said (replay_given None events (f ∷ fs)) = refl
 bound_said (replay_given (Some n) events []) = refl
@@ -96,13 +104,13 @@ events_of_replay None events files = refl
 events_of_replay (Some n) events files = refl
 
 module _ (host port key : Text) (files : List Text) where
-  pub host_of_engine : (bound : Option Text) → first_of (codes "HOST") (rows_in (engine_given bound host port key files))
-      ≡ Some host
+  pub host_of_engine : (bound : Option Text)
+      → first_of (codes "HOST") (rows_in (engine_given bound host port key files)) ≡ Some host
   host_of_engine None = refl
   host_of_engine (Some n) = refl
 
-  pub port_of_engine : (bound : Option Text) → first_of (codes "PORT") (rows_in (engine_given bound host port key files))
-      ≡ Some port
+  pub port_of_engine : (bound : Option Text)
+      → first_of (codes "PORT") (rows_in (engine_given bound host port key files)) ≡ Some port
   port_of_engine None = refl
   port_of_engine (Some n) = refl
 
@@ -110,6 +118,21 @@ module _ (host port key : Text) (files : List Text) where
       ≡ Some key
   key_of_engine None = refl
   key_of_engine (Some n) = refl
+
+  pub host_of_async : (bound : Option Text) → first_of (codes "HOST") (rows_in (async_given bound host port key files))
+      ≡ Some host
+  host_of_async None = refl
+  host_of_async (Some n) = refl
+
+  pub port_of_async : (bound : Option Text) → first_of (codes "PORT") (rows_in (async_given bound host port key files))
+      ≡ Some port
+  port_of_async None = refl
+  port_of_async (Some n) = refl
+
+  pub key_of_async : (bound : Option Text) → first_of (codes "KEY") (rows_in (async_given bound host port key files))
+      ≡ Some key
+  key_of_async None = refl
+  key_of_async (Some n) = refl
 
 -- ---- the files are the last of the words
 
@@ -144,7 +167,9 @@ front_is (talk_given (Some n) key files) = refl
 front_is (tape_given (Some n) key files) = refl
 front_is (audit_given (Some n) key files) = refl
 front_is (engine_given None host port key files) = refl
+front_is (async_given None host port key files) = refl
 front_is (engine_given (Some n) host port key files) = refl
+front_is (async_given (Some n) host port key files) = refl
 front_is (replay_given None events files) = refl
 front_is (replay_given (Some n) events files) = refl
 front_is (ide_given port script) = refl

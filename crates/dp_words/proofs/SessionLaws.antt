@@ -1,8 +1,8 @@
 -- What the matches of `talk`, `tape` and `audit` hold says what is asked for.
 use Rattle.std.proofs.Common.{◌≡◌, List, ◌∷◌, ◌++◌, map, Some, refl, sym, ap, ◌∙◌, subst, arith, codes, String, string_bytes, Global}
 use Rattle.clap.specs.Walk.{Row, Text, first_of}
-use Rattle.dp_words.specs.Words.{Invocation, IsInvocation, IsSession, Task, run, talk, tape, audit, dap, engine, ide, replay, soak, proxy, show, invocation_of}
-use Rattle.dp_words.specs.inner.Given.{Given, engine_given, ide_given, proxy_given, replay_given, run_given, show_given, soak_given, talk_given, tape_given, audit_given, dap_given, requested, bound_in, bounded, files_in, first_in, name_in, rows_in, words_in}
+use Rattle.dp_words.specs.Words.{Invocation, IsInvocation, IsSession, Task, run, talk, tape, audit, dap, engine, async, ide, replay, soak, proxy, show, invocation_of}
+use Rattle.dp_words.specs.inner.Given.{Given, engine_given, async_given, ide_given, proxy_given, replay_given, run_given, show_given, soak_given, talk_given, tape_given, audit_given, dap_given, requested, bound_in, bounded, files_in, first_in, name_in, rows_in, words_in}
 use Rattle.dp_words.specs.inner.Rows.{IsGiven, program_in}
 use Rattle.dp_words.proofs.CommandReadings.{name_of}
 use Rattle.dp_words.proofs.GivenLaws as law
@@ -64,6 +64,8 @@ module _ (words : List (String Global)) (name : Text) (rows : List Row) (i : IsG
       by (dap_given x0 x1) at = absurd (omega (arith, differs (codes "talk") (dap_given x0 x1) at is))
       by (engine_given x0 x1 x2 x3 x4) at =
           absurd (omega (arith, differs (codes "talk") (engine_given x0 x1 x2 x3 x4) at is))
+      by (async_given x0 x1 x2 x3 x4) at =
+          absurd (omega (arith, differs (codes "talk") (async_given x0 x1 x2 x3 x4) at is))
       by (ide_given x0 x1) at = absurd (omega (arith, differs (codes "talk") (ide_given x0 x1) at is))
       by (replay_given x0 x1 x2) at = absurd (omega (arith, differs (codes "talk") (replay_given x0 x1 x2) at is))
       by (soak_given x0 x1) at = absurd (omega (arith, differs (codes "talk") (soak_given x0 x1) at is))
@@ -92,6 +94,7 @@ module _ (words : List (String Global)) (name : Text) (rows : List Row) (i : IsG
         by_task (audit k asking) asks = omega (arith, clashes (codes "talk") (audit k asking) is asks)
         by_task (dap asking) asks = omega (arith, clashes (codes "talk") (dap asking) is asks)
         by_task (engine a k asking) asks = omega (arith, clashes (codes "talk") (engine a k asking) is asks)
+        by_task (async a k asking) asks = omega (arith, clashes (codes "talk") (async a k asking) is asks)
         by_task (ide n s) asks = omega (arith, clashes (codes "talk") (ide n s) is asks)
         by_task (replay e asking) asks = omega (arith, clashes (codes "talk") (replay e asking) is asks)
         by_task (soak n d) asks = omega (arith, clashes (codes "talk") (soak n d) is asks)
@@ -103,6 +106,8 @@ module _ (words : List (String Global)) (name : Text) (rows : List Row) (i : IsG
       by (dap_given x0 x1) at = absurd (omega (arith, differs (codes "talk") (dap_given x0 x1) at is))
       by (engine_given x0 x1 x2 x3 x4) at =
           absurd (omega (arith, differs (codes "talk") (engine_given x0 x1 x2 x3 x4) at is))
+      by (async_given x0 x1 x2 x3 x4) at =
+          absurd (omega (arith, differs (codes "talk") (async_given x0 x1 x2 x3 x4) at is))
       by (ide_given x0 x1) at = absurd (omega (arith, differs (codes "talk") (ide_given x0 x1) at is))
       by (replay_given x0 x1 x2) at = absurd (omega (arith, differs (codes "talk") (replay_given x0 x1 x2) at is))
       by (soak_given x0 x1) at = absurd (omega (arith, differs (codes "talk") (soak_given x0 x1) at is))
@@ -135,6 +140,8 @@ module _ (words : List (String Global)) (name : Text) (rows : List Row) (i : IsG
       by (dap_given x0 x1) at = absurd (omega (arith, differs (codes "tape") (dap_given x0 x1) at is))
       by (engine_given x0 x1 x2 x3 x4) at =
           absurd (omega (arith, differs (codes "tape") (engine_given x0 x1 x2 x3 x4) at is))
+      by (async_given x0 x1 x2 x3 x4) at =
+          absurd (omega (arith, differs (codes "tape") (async_given x0 x1 x2 x3 x4) at is))
       by (ide_given x0 x1) at = absurd (omega (arith, differs (codes "tape") (ide_given x0 x1) at is))
       by (replay_given x0 x1 x2) at = absurd (omega (arith, differs (codes "tape") (replay_given x0 x1 x2) at is))
       by (soak_given x0 x1) at = absurd (omega (arith, differs (codes "tape") (soak_given x0 x1) at is))
@@ -163,6 +170,7 @@ module _ (words : List (String Global)) (name : Text) (rows : List Row) (i : IsG
         by_task (audit k asking) asks = omega (arith, clashes (codes "tape") (audit k asking) is asks)
         by_task (dap asking) asks = omega (arith, clashes (codes "tape") (dap asking) is asks)
         by_task (engine a k asking) asks = omega (arith, clashes (codes "tape") (engine a k asking) is asks)
+        by_task (async a k asking) asks = omega (arith, clashes (codes "tape") (async a k asking) is asks)
         by_task (ide n s) asks = omega (arith, clashes (codes "tape") (ide n s) is asks)
         by_task (replay e asking) asks = omega (arith, clashes (codes "tape") (replay e asking) is asks)
         by_task (soak n d) asks = omega (arith, clashes (codes "tape") (soak n d) is asks)
@@ -174,6 +182,8 @@ module _ (words : List (String Global)) (name : Text) (rows : List Row) (i : IsG
       by (dap_given x0 x1) at = absurd (omega (arith, differs (codes "tape") (dap_given x0 x1) at is))
       by (engine_given x0 x1 x2 x3 x4) at =
           absurd (omega (arith, differs (codes "tape") (engine_given x0 x1 x2 x3 x4) at is))
+      by (async_given x0 x1 x2 x3 x4) at =
+          absurd (omega (arith, differs (codes "tape") (async_given x0 x1 x2 x3 x4) at is))
       by (ide_given x0 x1) at = absurd (omega (arith, differs (codes "tape") (ide_given x0 x1) at is))
       by (replay_given x0 x1 x2) at = absurd (omega (arith, differs (codes "tape") (replay_given x0 x1 x2) at is))
       by (soak_given x0 x1) at = absurd (omega (arith, differs (codes "tape") (soak_given x0 x1) at is))
@@ -206,6 +216,8 @@ module _ (words : List (String Global)) (name : Text) (rows : List Row) (i : IsG
       by (dap_given x0 x1) at = absurd (omega (arith, differs (codes "audit") (dap_given x0 x1) at is))
       by (engine_given x0 x1 x2 x3 x4) at =
           absurd (omega (arith, differs (codes "audit") (engine_given x0 x1 x2 x3 x4) at is))
+      by (async_given x0 x1 x2 x3 x4) at =
+          absurd (omega (arith, differs (codes "audit") (async_given x0 x1 x2 x3 x4) at is))
       by (ide_given x0 x1) at = absurd (omega (arith, differs (codes "audit") (ide_given x0 x1) at is))
       by (replay_given x0 x1 x2) at = absurd (omega (arith, differs (codes "audit") (replay_given x0 x1 x2) at is))
       by (soak_given x0 x1) at = absurd (omega (arith, differs (codes "audit") (soak_given x0 x1) at is))
@@ -234,6 +246,7 @@ module _ (words : List (String Global)) (name : Text) (rows : List Row) (i : IsG
         by_task (tape k asking) asks = omega (arith, clashes (codes "audit") (tape k asking) is asks)
         by_task (dap asking) asks = omega (arith, clashes (codes "audit") (dap asking) is asks)
         by_task (engine a k asking) asks = omega (arith, clashes (codes "audit") (engine a k asking) is asks)
+        by_task (async a k asking) asks = omega (arith, clashes (codes "audit") (async a k asking) is asks)
         by_task (ide n s) asks = omega (arith, clashes (codes "audit") (ide n s) is asks)
         by_task (replay e asking) asks = omega (arith, clashes (codes "audit") (replay e asking) is asks)
         by_task (soak n d) asks = omega (arith, clashes (codes "audit") (soak n d) is asks)
@@ -245,6 +258,8 @@ module _ (words : List (String Global)) (name : Text) (rows : List Row) (i : IsG
       by (dap_given x0 x1) at = absurd (omega (arith, differs (codes "audit") (dap_given x0 x1) at is))
       by (engine_given x0 x1 x2 x3 x4) at =
           absurd (omega (arith, differs (codes "audit") (engine_given x0 x1 x2 x3 x4) at is))
+      by (async_given x0 x1 x2 x3 x4) at =
+          absurd (omega (arith, differs (codes "audit") (async_given x0 x1 x2 x3 x4) at is))
       by (ide_given x0 x1) at = absurd (omega (arith, differs (codes "audit") (ide_given x0 x1) at is))
       by (replay_given x0 x1 x2) at = absurd (omega (arith, differs (codes "audit") (replay_given x0 x1 x2) at is))
       by (soak_given x0 x1) at = absurd (omega (arith, differs (codes "audit") (soak_given x0 x1) at is))

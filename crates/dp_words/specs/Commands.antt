@@ -5,7 +5,7 @@ use Rattle.dp_words.specs.declared.words.Command.{Command}
 use Rattle.dp_words.specs.declared.words.Program.{Program}
 use Rattle.dp_words.specs.declared.words.Proxy.{Proxy}
 use Rattle.dp_words.specs.declared.words.Command.TheVariants as told
-use Rattle.dp_words.specs.Words.{Address, Invocation, Service, Task, run, talk, tape, audit, dap, engine, ide, replay, soak, proxy, show}
+use Rattle.dp_words.specs.Words.{Address, Invocation, Service, Task, run, talk, tape, audit, dap, engine, async, ide, replay, soak, proxy, show}
 
 -- a program that is asked for
 abbrev pub invocation_seen : Program → Invocation
@@ -34,6 +34,9 @@ task_of (told.Audit request) = audit request.key.now (invocation_seen request.pr
 task_of (told.Dap program) = dap (invocation_seen program)
 task_of (told.Engine request) =
     engine (address_seen request.address) request.talk.key.now
+    (invocation_seen request.talk.program)
+task_of (told.Async request) =
+    async (address_seen request.address) request.talk.key.now
     (invocation_seen request.talk.program)
 task_of (told.Ide request) = ide request.port request.script.now
 task_of (told.Replay request) = replay request.events.now (invocation_seen request.program)

@@ -14,7 +14,8 @@ abbrev pub has_bound : List ℕ → Bool
 has_bound name =
     bytes_eq name (codes "run") || bytes_eq name (codes "talk") || bytes_eq name (codes "tape")
     || bytes_eq name (codes "audit") || bytes_eq name (codes "dap")
-    || bytes_eq name (codes "engine") || bytes_eq name (codes "replay")
+    || bytes_eq name (codes "engine") || bytes_eq name (codes "async")
+    || bytes_eq name (codes "replay")
 
 -- a bound stands directly behind the command, and before a word
 abbrev pub are_bounded : List (List ℕ) → Bool

@@ -138,7 +138,7 @@ pub record Address : Type 0 where
   pub host : List ℕ
   pub port : ℕ
 
--- what stands behind `engine`
+-- what stands behind `engine`, and behind `async`
 pub record EngineWords (words : List (List ℕ)) (address : Address) (key : List ℕ) (ask : Invocation)
     : Type 0 where
   pub number : List ℕ
@@ -153,6 +153,13 @@ pub record IsEngine (words : List (List ℕ)) (address : Address) (key : List �
     : Type 0 where
   pub behind : List (List ℕ)
   pub words_are : words ≡ codes "engine" ∷ behind
+  pub dials : EngineWords behind address key ask
+
+-- the words are `async [--bound N] HOST PORT KEY FILE..`
+pub record IsAsync (words : List (List ℕ)) (address : Address) (key : List ℕ) (ask : Invocation)
+    : Type 0 where
+  pub behind : List (List ℕ)
+  pub words_are : words ≡ codes "async" ∷ behind
   pub dials : EngineWords behind address key ask
 
 -- the words are `ide PORT SCRIPT`
@@ -230,6 +237,7 @@ pub data Task : Type 0 where
   audit : (key : List ℕ) → Invocation → Task
   dap : Invocation → Task
   engine : Address → (key : List ℕ) → Invocation → Task
+  async : Address → (key : List ℕ) → Invocation → Task
   ide : (port : ℕ) → (script : List ℕ) → Task
   replay : (events : List ℕ) → Invocation → Task
   soak : (count seed : ℕ) → Task
@@ -244,6 +252,7 @@ IsInvocation words (tape key ask) = IsTape words key ask
 IsInvocation words (audit key ask) = IsAudit words key ask
 IsInvocation words (dap ask) = IsDap words ask
 IsInvocation words (engine address key ask) = IsEngine words address key ask
+IsInvocation words (async address key ask) = IsAsync words address key ask
 IsInvocation words (ide port script) = IsIde words port script
 IsInvocation words (replay events ask) = IsReplay words events ask
 IsInvocation words (soak count seed) = IsSoak words count seed
@@ -258,6 +267,7 @@ invocation_in (tape key ask) = Some ask
 invocation_in (audit key ask) = Some ask
 invocation_in (dap ask) = Some ask
 invocation_in (engine address key ask) = Some ask
+invocation_in (async address key ask) = Some ask
 invocation_in (ide port script) = None
 invocation_in (replay events ask) = None
 invocation_in (soak count seed) = None
@@ -284,11 +294,13 @@ uses_shelf task = true
 -- whether it is done over the network
 abbrev pub uses_net : Task → Bool
 uses_net (engine address key ask) = true
+uses_net (async address key ask) = true
 uses_net (ide port script) = true
 uses_net (proxy service) = true
 uses_net task = false
 
 -- whether threads are started for it
 abbrev pub uses_spawner : Task → Bool
+uses_spawner (async address key ask) = true
 uses_spawner (proxy service) = true
 uses_spawner task = false

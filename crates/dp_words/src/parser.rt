@@ -103,6 +103,17 @@ fn engine<'a>(alloc: Global) -> Result<Command<'a>, AllocError>
         .arg(files(alloc))
 }
 
+/// `async [--bound N] HOST PORT KEY FILE..`
+fn async_<'a>(alloc: Global) -> Result<Command<'a>, AllocError>
+    ensures { IfOk result (λ c. shape_of c ≡ shape.async) }
+{
+    bounded(alloc, "async")?
+        .arg(word(alloc, "HOST"))?
+        .arg(word(alloc, "PORT"))?
+        .arg(word(alloc, "KEY"))?
+        .arg(files(alloc))
+}
+
 /// `ide PORT SCRIPT`
 fn ide<'a>(alloc: Global) -> Result<Command<'a>, AllocError>
     ensures { IfOk result (λ c. shape_of c ≡ shape.ide) }
@@ -164,6 +175,7 @@ fn program<'a>(alloc: Global) -> Result<Command<'a>, AllocError>
         .subcommand(audit(alloc)?)?
         .subcommand(dap(alloc)?)?
         .subcommand(engine(alloc)?)?
+        .subcommand(async_(alloc)?)?
         .subcommand(ide(alloc)?)?
         .subcommand(replay(alloc)?)?
         .subcommand(soak(alloc)?)?

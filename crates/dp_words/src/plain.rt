@@ -31,6 +31,7 @@ fn has_bound(name: &str) -> bool
         || name == "audit"
         || name == "dap"
         || name == "engine"
+        || name == "async"
         || name == "replay"
 }
 

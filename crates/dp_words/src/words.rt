@@ -93,6 +93,8 @@ pub enum Command<'a> {
     Dap(Program<'a>),
     /// One session over a link.
     Engine(Engine<'a>),
+    /// One session over a link, which listens while its program runs.
+    Async(Engine<'a>),
     /// A script over a link.
     Ide(Ide<'a>),
     /// The transcript of events.
@@ -246,7 +248,7 @@ fn engine_of<'a>(
     Some(Engine { address, talk })
 }
 
-/// `engine [--bound N] HOST PORT KEY FILE..`
+/// `engine [--bound N] HOST PORT KEY FILE..`, and the same behind `async`.
 fn read_engine<'a>(words: &'a [String], given: &ArgMatches<'a>) -> Option<Engine<'a>>
     requires few { count_in (rows_of (found_of given.now)) ≤ length words.now }
     ensures found { IfSome result (λ e.
@@ -424,6 +426,9 @@ fn command_named<'a>(words: &'a [String], name: &str, given: &ArgMatches<'a>) ->
     }
     if name == "engine" {
         return Some(Command::Engine(read_engine(words, given)?));
+    }
+    if name == "async" {
+        return Some(Command::Async(read_engine(words, given)?));
     }
     if name == "ide" {
         return Some(Command::Ide(read_ide(given)?));

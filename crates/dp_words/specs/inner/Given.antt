@@ -15,6 +15,7 @@ pub data Given : Type 0 where
   audit_given : (bound : Option Text) → (key : Text) → (files : List Text) → Given
   dap_given : (bound : Option Text) → (files : List Text) → Given
   engine_given : (bound : Option Text) → (host port key : Text) → (files : List Text) → Given
+  async_given : (bound : Option Text) → (host port key : Text) → (files : List Text) → Given
   ide_given : (port script : Text) → Given
   replay_given : (bound : Option Text) → (events : Text) → (files : List Text) → Given
   soak_given : (count seed : Text) → Given
@@ -30,6 +31,7 @@ name_in (tape_given bound key files) = codes "tape"
 name_in (audit_given bound key files) = codes "audit"
 name_in (dap_given bound files) = codes "dap"
 name_in (engine_given bound host port key files) = codes "engine"
+name_in (async_given bound host port key files) = codes "async"
 name_in (ide_given port script) = codes "ide"
 name_in (replay_given bound events files) = codes "replay"
 name_in (soak_given count seed) = codes "soak"
@@ -43,6 +45,7 @@ bound_in (tape_given bound key files) = bound
 bound_in (audit_given bound key files) = bound
 bound_in (dap_given bound files) = bound
 bound_in (engine_given bound host port key files) = bound
+bound_in (async_given bound host port key files) = bound
 bound_in (ide_given port script) = None
 bound_in (replay_given bound events files) = bound
 bound_in (soak_given count seed) = None
@@ -57,6 +60,7 @@ first_in (tape_given bound key files) = key ∷ []
 first_in (audit_given bound key files) = key ∷ []
 first_in (dap_given bound files) = []
 first_in (engine_given bound host port key files) = host ∷ port ∷ key ∷ []
+first_in (async_given bound host port key files) = host ∷ port ∷ key ∷ []
 first_in (ide_given port script) = port ∷ script ∷ []
 first_in (replay_given bound events files) = events ∷ []
 first_in (soak_given count seed) = count ∷ seed ∷ []
@@ -71,6 +75,7 @@ files_in (tape_given bound key files) = files
 files_in (audit_given bound key files) = files
 files_in (dap_given bound files) = files
 files_in (engine_given bound host port key files) = files
+files_in (async_given bound host port key files) = files
 files_in (ide_given port script) = []
 files_in (replay_given bound events files) = files
 files_in (soak_given count seed) = []
@@ -130,6 +135,7 @@ ids_in (tape_given bound key files) = talk_words
 ids_in (audit_given bound key files) = talk_words
 ids_in (dap_given bound files) = []
 ids_in (engine_given bound host port key files) = engine_words
+ids_in (async_given bound host port key files) = engine_words
 ids_in (ide_given port script) = ide_words
 ids_in (replay_given bound events files) = replay_words
 ids_in (soak_given count seed) = soak_words

@@ -82,6 +82,9 @@ dap = program_row (codes "dap") []
 abbrev pub engine : Shape
 engine = program_row (codes "engine") engine_words
 
+abbrev pub async : Shape
+async = program_row (codes "async") engine_words
+
 abbrev pub ide : Shape
 ide = plain_row (codes "ide") ide_words
 
@@ -112,5 +115,6 @@ settings = record { top = top; subs = [] }
 abbrev pub program : App
 program = record {
   top = record top { is_leaf = false };
-  subs = run ∷ talk ∷ tape ∷ audit ∷ dap ∷ engine ∷ ide ∷ replay ∷ soak ∷ proxy ∷ show ∷ [];
+  subs = run ∷ talk ∷ tape ∷ audit ∷ dap ∷ engine ∷ async ∷ ide ∷ replay ∷ soak ∷ proxy ∷ show
+      ∷ [];
 }

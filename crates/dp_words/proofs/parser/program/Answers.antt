@@ -19,6 +19,7 @@ returns c =
     let audit_is : shape_of c.in_ok-audit.field-0 ≡ row.audit = c.in_ok-audit.ensures in
     let dap_is : shape_of c.in_ok-dap.field-0 ≡ row.dap = c.in_ok-dap.ensures in
     let engine_is : shape_of c.in_ok-engine.field-0 ≡ row.engine = c.in_ok-engine.ensures in
+    let async_is : shape_of c.in_ok-async_.field-0 ≡ row.async = c.in_ok-async_.ensures in
     let ide_is : shape_of c.in_ok-ide.field-0 ≡ row.ide = c.in_ok-ide.ensures in
     let replay_is : shape_of c.in_ok-replay.field-0 ≡ row.replay = c.in_ok-replay.ensures in
     let soak_is : shape_of c.in_ok-soak.field-0 ≡ row.soak = c.in_ok-soak.ensures in
@@ -31,9 +32,10 @@ returns c =
     let four = c.in_ok-subcommand-4.ensures.shape (local _ _ audit_is refl) ∙ ap₂ with_subcommand three audit_is in
     let five = c.in_ok-subcommand-5.ensures.shape (local _ _ dap_is refl) ∙ ap₂ with_subcommand four dap_is in
     let six = c.in_ok-subcommand-6.ensures.shape (local _ _ engine_is refl) ∙ ap₂ with_subcommand five engine_is in
-    let seven = c.in_ok-subcommand-7.ensures.shape (local _ _ ide_is refl) ∙ ap₂ with_subcommand six ide_is in
-    let eight = c.in_ok-subcommand-8.ensures.shape (local _ _ replay_is refl) ∙ ap₂ with_subcommand seven replay_is in
-    let nine = c.in_ok-subcommand-9.ensures.shape (local _ _ soak_is refl) ∙ ap₂ with_subcommand eight soak_is in
-    let ten = c.in_ok-subcommand-10.ensures.shape (local _ _ proxy_is refl) ∙ ap₂ with_subcommand nine proxy_is in
-    IfOk-weaker c.subcommand-11.result _ _ (λ r h. h.shape c.new.ensures.local ∙ ap₂ with_subcommand ten show_is)
-    c.subcommand-11.ensures
+    let seven = c.in_ok-subcommand-7.ensures.shape (local _ _ async_is refl) ∙ ap₂ with_subcommand six async_is in
+    let eight = c.in_ok-subcommand-8.ensures.shape (local _ _ ide_is refl) ∙ ap₂ with_subcommand seven ide_is in
+    let nine = c.in_ok-subcommand-9.ensures.shape (local _ _ replay_is refl) ∙ ap₂ with_subcommand eight replay_is in
+    let ten = c.in_ok-subcommand-10.ensures.shape (local _ _ soak_is refl) ∙ ap₂ with_subcommand nine soak_is in
+    let eleven = c.in_ok-subcommand-11.ensures.shape (local _ _ proxy_is refl) ∙ ap₂ with_subcommand ten proxy_is in
+    IfOk-weaker c.subcommand-12.result _ _ (λ r h. h.shape c.new.ensures.local ∙ ap₂ with_subcommand eleven show_is)
+    c.subcommand-12.ensures

@@ -1,7 +1,8 @@
 use Rattle.std.proofs.Common.{◌≡◌, Option, Some, None, true, false, sym, ◌∙◌, rules, codes}
 use Rattle.std.specs.Prelude.{IfNone}
 use Rattle.dp_words.specs.Commands.{address_seen, invocation_seen, service_seen}
-use Rattle.dp_words.proofs.GivenLaws.{dap_found, dap_none, engine_found, engine_none, ide_found, ide_none, proxy_found, proxy_none, replay_found, replay_none, run_found, run_none, show_found, soak_found, soak_none}
+use Rattle.dp_words.proofs.AddressLaws.{async_found, async_none, engine_found, engine_none}
+use Rattle.dp_words.proofs.GivenLaws.{dap_found, dap_none, ide_found, ide_none, proxy_found, proxy_none, replay_found, replay_none, run_found, run_none, show_found, soak_found, soak_none}
 use Rattle.dp_words.proofs.SessionLaws.{audit_found, audit_none, talk_found, talk_none, tape_found, tape_none}
 use Rattle.dp_words.proofs.words.command_named.Goals as goal
 
@@ -88,6 +89,20 @@ returns-in_err-read_engine-clause-none c =
 
 pub returns-then-eq-7-clause-found : goal.returns-then-eq-7-clause-found
 returns-then-eq-7-clause-found c =
+    let named : c.args.name.now ≡ codes "async" = search rules in
+    let v = c.in_ok-read_engine-2.field-0 in
+    let f = c.in_ok-read_engine-2.ensures.found in
+    async_found c.args.words.now c.args.name.now _ c.requires.given named (address_seen v.address) v.talk.key.now
+    (invocation_seen v.talk.program) f.0 f.2 f.3 f.4 f.1 f.5
+
+pub returns-in_err-read_engine-2-clause-none : goal.returns-in_err-read_engine-2-clause-none
+returns-in_err-read_engine-2-clause-none c =
+    let named : c.args.name.now ≡ codes "async" = search rules in
+    none_so _ _ (async_none c.args.words.now c.args.name.now _ c.requires.given named
+    c.in_err-read_engine-2.ensures.none)
+
+pub returns-then-eq-8-clause-found : goal.returns-then-eq-8-clause-found
+returns-then-eq-8-clause-found c =
     let named : c.args.name.now ≡ codes "ide" = search rules in
     let v = c.in_ok-read_ide.field-0 in
     let f = c.in_ok-read_ide.ensures.found in
@@ -98,8 +113,8 @@ returns-in_err-read_ide-clause-none c =
     let named : c.args.name.now ≡ codes "ide" = search rules in
     none_so _ _ (ide_none c.args.words.now c.args.name.now _ c.requires.given named c.in_err-read_ide.ensures.none)
 
-pub returns-then-eq-8-clause-found : goal.returns-then-eq-8-clause-found
-returns-then-eq-8-clause-found c =
+pub returns-then-eq-9-clause-found : goal.returns-then-eq-9-clause-found
+returns-then-eq-9-clause-found c =
     let named : c.args.name.now ≡ codes "replay" = search rules in
     let v = c.in_ok-read_replay.field-0 in
     let f = c.in_ok-read_replay.ensures.found in
@@ -112,8 +127,8 @@ returns-in_err-read_replay-clause-none c =
     none_so _ _ (replay_none c.args.words.now c.args.name.now _ c.requires.given named
     c.in_err-read_replay.ensures.none)
 
-pub returns-then-eq-9-clause-found : goal.returns-then-eq-9-clause-found
-returns-then-eq-9-clause-found c =
+pub returns-then-eq-10-clause-found : goal.returns-then-eq-10-clause-found
+returns-then-eq-10-clause-found c =
     let named : c.args.name.now ≡ codes "soak" = search rules in
     let v = c.in_ok-read_soak.field-0 in
     let f = c.in_ok-read_soak.ensures.found in
@@ -124,8 +139,8 @@ returns-in_err-read_soak-clause-none c =
     let named : c.args.name.now ≡ codes "soak" = search rules in
     none_so _ _ (soak_none c.args.words.now c.args.name.now _ c.requires.given named c.in_err-read_soak.ensures.none)
 
-pub returns-then-eq-10-clause-found : goal.returns-then-eq-10-clause-found
-returns-then-eq-10-clause-found c =
+pub returns-then-eq-11-clause-found : goal.returns-then-eq-11-clause-found
+returns-then-eq-11-clause-found c =
     let named : c.args.name.now ≡ codes "proxy" = search rules in
     let v = c.in_ok-read_proxy.field-0 in
     let f = c.in_ok-read_proxy.ensures.found in
@@ -156,17 +171,20 @@ returns-clause-found c =
     let no_engine : c.args.name.now ≡ codes "engine" → ⊥ = λ e.
     let yes : c.eq-6.result ≡ true = search (rules, e) in
     let clash : true ≡ false = sym yes ∙ c.if-eq-6.false in absurd cc in
-    let no_ide : c.args.name.now ≡ codes "ide" → ⊥ = λ e.
+    let no_async : c.args.name.now ≡ codes "async" → ⊥ = λ e.
     let yes : c.eq-7.result ≡ true = search (rules, e) in
     let clash : true ≡ false = sym yes ∙ c.if-eq-7.false in absurd cc in
-    let no_replay : c.args.name.now ≡ codes "replay" → ⊥ = λ e.
+    let no_ide : c.args.name.now ≡ codes "ide" → ⊥ = λ e.
     let yes : c.eq-8.result ≡ true = search (rules, e) in
     let clash : true ≡ false = sym yes ∙ c.if-eq-8.false in absurd cc in
-    let no_soak : c.args.name.now ≡ codes "soak" → ⊥ = λ e.
+    let no_replay : c.args.name.now ≡ codes "replay" → ⊥ = λ e.
     let yes : c.eq-9.result ≡ true = search (rules, e) in
     let clash : true ≡ false = sym yes ∙ c.if-eq-9.false in absurd cc in
-    let no_proxy : c.args.name.now ≡ codes "proxy" → ⊥ = λ e.
+    let no_soak : c.args.name.now ≡ codes "soak" → ⊥ = λ e.
     let yes : c.eq-10.result ≡ true = search (rules, e) in
     let clash : true ≡ false = sym yes ∙ c.if-eq-10.false in absurd cc in
+    let no_proxy : c.args.name.now ≡ codes "proxy" → ⊥ = λ e.
+    let yes : c.eq-11.result ≡ true = search (rules, e) in
+    let clash : true ≡ false = sym yes ∙ c.if-eq-11.false in absurd cc in
     show_found c.args.words.now c.args.name.now _ c.requires.given no_run no_talk no_tape no_audit no_dap no_engine
-    no_ide no_replay no_soak no_proxy
+    no_async no_ide no_replay no_soak no_proxy

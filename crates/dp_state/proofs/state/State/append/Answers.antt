@@ -46,7 +46,8 @@ returns-clause-memory c =
     λ want. on_either c.home-at.result c.args.self.now c.take_own-vars.new.self c.exchange_own.new.self
     c.take_own-vars.result c.append_in-done.new.vars c.take_own-vars.ensures.taken c.take_own-vars.ensures.left
     c.exchange_own.ensures.given
-    (assigned 0 c.args.name.now c.args.keys.now false Null c.args.self.now) (assigned_in c.args.name.now c.args.keys.now false Null)
+    (assigned 0 c.args.name.now c.args.keys.now false Null c.args.self.now)
+    (assigned_in c.args.name.now c.args.keys.now false Null)
     (assigned-home c.args.self.now 0 c.args.name.now c.args.keys.now false Null
     ∙ ap (λ (at : ℕ). with_result at c.args.self.now (assigned_in c.args.name.now c.args.keys.now false Null
     (own_variables c.args.self.now at))) (sym c.home-at.ensures.home))

@@ -1,0 +1,5 @@
+pub mod Listens
+pub mod Heard
+pub mod Served
+pub mod Beside
+pub mod inner

@@ -1,0 +1,5 @@
+pub mod Breaks
+pub mod Counts
+pub mod Looks
+pub mod Quiet
+pub mod Runs
