@@ -1,10 +1,8 @@
 -- What serving a session came to decides the end of `talk`.
-use Rattle.std.proofs.Common.{◌≡◌, ◌≤◌, ℕ, List, [], map, Option, None, Some, Result, Ok, Err, refl, sym, ap, ◌∙◌, subst, inl, inr, arith, String, string_bytes, Global}
+use Rattle.std.proofs.Common.{◌≡◌, ◌≤◌, ℕ, List, [], Option, None, Some, Result, Ok, Err, refl, sym, ap, ◌∙◌, subst, inl, inr, arith}
 use Rattle.std.specs.Prelude.{IfOk, IfErr, MatchResult}
 use Rattle.dp_outside.specs.Changes.{Change}
 use Rattle.dp_tree.specs.declared.bundle.Bundle.{Bundle}
-use Rattle.dp_tree.specs.declared.bundle.BundleFile.{BundleFile}
-use Rattle.dp_tree.specs.FileNames.{AreFileNames}
 use Rattle.dp_bundle.specs.declared.errors.BundleError.{BundleError}
 use Rattle.dp_engine.specs.declared.service.ServeEnd.{ServeEnd}
 use Rattle.dp_engine.specs.declared.service.ServeEnd.TheVariants.{Stopped, Detached, LinkEnd, ReadFault, WriteFault, OutFault, BadCommandFrame, ByteLimit, Memory}
@@ -24,13 +22,12 @@ use Rattle.dp_state.specs.declared.moments.Outcome.TheVariants as way
 use Rattle.dp_top.specs.declared.failures.Failure.{Failure}
 use Rattle.dp_top.specs.declared.failures.Failure.TheVariants as failure
 use Rattle.dp_top.specs.declared.failures.Refused.{Refused}
-use Rattle.dp_words.specs.Words.{AreFileWords, Invocation}
+use Rattle.dp_words.specs.Words.{Invocation}
 use Rattle.dp_top.specs.Runs.{IsProgramReported, IsRunReported}
 use Rattle.dp_top.specs.inner.Completeness.{IsComplete, IsGood}
 use Rattle.dp_top.specs.Seen.{Seen, changed}
 use Rattle.dp_top.specs.Talk.{AreIdle, Talks, TalkFails, EndReport, end_report, ended, judged_by, unnamed}
 use Rattle.dp_top.specs.inner.Sessions.{ServedSo, UnservedSo, reported_in}
-use Rattle.dp_words.proofs.NameLaws.{names_of}
 
 -- ---- what is told
 
@@ -169,9 +166,3 @@ pub complete_served : (asked : Result Bundle BundleError) (program : Bundle) (re
     → ((made : Bundle) (b a : ℕ) → IsComplete (Ok made) result b a) → IsComplete asked result before after
 complete_served (Ok made) program result before after held good = good made before after
 complete_served (Err e) program result before after held good = absurd held
-
--- the files of a program that was made of the files of these words have their names, which are names of files
-pub are_named : (words : List (String Global)) (program : Bundle)
-    → map (λ (f : BundleFile). f.name) program.files ≡ map string_bytes words → AreFileWords (map string_bytes words)
-    → AreFileNames (map (λ (f : BundleFile). f.name) program.files)
-are_named words program named files = subst AreFileNames (sym named) (names_of words files)

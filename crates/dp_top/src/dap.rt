@@ -26,7 +26,7 @@ use std::marker::Brand;
 use std::sync::ledger::{Blank, Ledger};
 
 /// Serves the gateway over a program, with a ledger for its steps.
-#[tactic(auto, using(crate::proofs::TalkLaws::are_named))]
+#[tactic(auto, using(dp_words::proofs::NameLaws::are_named))]
 fn serve_gateway<'a, S: Source, K: Sink, E: Sink, L: Ledger>(
     alloc: Global,
     program: Program<'a>,

@@ -55,7 +55,7 @@ fn judge_attended<'a>(
 }
 
 /// Serves one session over a link to a machine, beside a thread that reads it, and takes the link back.
-#[tactic(auto, using(crate::proofs::TalkLaws::are_named))]
+#[tactic(auto, using(dp_words::proofs::NameLaws::are_named))]
 fn serve_heard<'a, R: Wait + Sync, N: Net, K: Sink, P: Spawner, L: Ledger>(
     rt: &R,
     alloc: Global,

@@ -53,7 +53,7 @@ fn judge_tape<'a>(program: Program<'a>, end: TapeEnd) -> Result<u8, Refused<'a>>
 }
 
 /// Tapes a session over a program.
-#[tactic(auto, using(crate::proofs::TalkLaws::are_named))]
+#[tactic(auto, using(dp_words::proofs::NameLaws::are_named))]
 fn tape_program<'a, S: Source, K: Sink>(
     alloc: Global,
     request: Talk<'a>,
@@ -156,7 +156,7 @@ fn failure_of(why: AuditError) -> Failure
 }
 
 /// Audits a record of a session over a program.
-#[tactic(auto, using(crate::proofs::TalkLaws::are_named))]
+#[tactic(auto, using(dp_words::proofs::NameLaws::are_named))]
 fn audit_program<'a, S: Source, K: Sink>(
     alloc: Global,
     request: Talk<'a>,

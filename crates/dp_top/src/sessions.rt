@@ -64,7 +64,7 @@ pub(crate) fn judge<'a>(
 }
 
 /// Serves one session over a program, with a ledger for its steps.
-#[tactic(auto, using(crate::proofs::TalkLaws::are_named, crate::proofs::TalkLaws::small_served))]
+#[tactic(auto, using(dp_words::proofs::NameLaws::are_named, crate::proofs::TalkLaws::small_served))]
 pub(crate) fn serve_program<'a, S: Source, K: Sink, E: Sink, L: Ledger>(
     alloc: Global,
     request: Talk<'a>,

@@ -9,6 +9,8 @@ use Rattle.std.proofs.lemmas.List.Folds.{list_all-map}
 use Rattle.std.proofs.lemmas.Str.{IsUtf8-string_bytes}
 use Rattle.dp_value.specs.Names.{without_slash}
 use Rattle.dp_tree.specs.FileNames.{AreFileNames}
+use Rattle.dp_tree.specs.declared.bundle.Bundle.{Bundle}
+use Rattle.dp_tree.specs.declared.bundle.BundleFile.{BundleFile}
 use Rattle.dp_wire.specs.Frames.{has_no_nul}
 use Rattle.dp_words.specs.Words.{AreFileWords, IsFileWord, are_apart}
 use Rattle.dp_words.specs.Plain.{is_plain}
@@ -138,3 +140,9 @@ all_named words i all over = ((λ _. subst (All IsNamed) (take_all i words over)
 pub plain_map : (words : List (String Global))
     → list_all is_plain (map string_bytes words) ≡ list_all (λ word. is_plain (string_bytes word)) words
 plain_map words = list_all-map is_plain string_bytes words
+
+-- the files of a program that was made of the files of these words have their names, which are names of files
+pub are_named : (words : List (String Global)) (program : Bundle)
+    → map (λ (f : BundleFile). f.name) program.files ≡ map string_bytes words → AreFileWords (map string_bytes words)
+    → AreFileNames (map (λ (f : BundleFile). f.name) program.files)
+are_named words program named files = subst AreFileNames (sym named) (names_of words files)

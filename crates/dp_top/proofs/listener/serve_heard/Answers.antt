@@ -3,10 +3,10 @@ use Rattle.dp_async.specs.Beside.{flow_of}
 use Rattle.dp_outside.specs.Changes.{change}
 use Rattle.dp_outside.specs.Links.{Link, link}
 use Rattle.dp_words.specs.Commands.{address_seen, invocation_seen}
+use Rattle.dp_words.proofs.NameLaws.{are_named}
 use Rattle.dp_top.specs.Seen.{net_seen}
 use Rattle.dp_top.proofs.AsyncLaws.{attended_over, good_attended, small_attended}
 use Rattle.dp_top.proofs.EngineLaws.{not_given, taken_back}
-use Rattle.dp_top.proofs.TalkLaws.{are_named}
 use Rattle.dp_top.proofs.listener.serve_heard.Goals as goal
 
 pub serve_async-done-requires-clause-names : goal.serve_async-done-requires-clause-names
