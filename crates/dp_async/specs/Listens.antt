@@ -5,6 +5,7 @@ use Rattle.std.specs.List.{list_all}
 use Rattle.std.specs.Str.{bytes_eq}
 use Rattle.dp_command.specs.declared.errors.Refusal.TheVariants.{Duplicate, NoId}
 use Rattle.dp_command.specs.declared.line.Line.{Line}
+use Rattle.dp_command.specs.declared.names.CommandName.{CommandName}
 use Rattle.dp_command.specs.declared.names.CommandName.TheVariants.{FeatureGet, Status}
 use Rattle.dp_command.specs.Letters as letter
 use Rattle.dp_command.specs.Options.{text_given}
@@ -44,10 +45,10 @@ break_tests runs line =
     coded line Duplicate ∷ coded line NoId ∷ (not runs, CommandNotAvailable)
     ∷ (not (fits_break line), InvalidOptions) ∷ []
 
--- the tests of a `status`, which is there always
-abbrev pub status_tests : Line → List Test
-status_tests line =
-    coded line Duplicate ∷ coded line NoId ∷ (not (fits_row Status line), InvalidOptions) ∷ []
+-- the tests of a command that is there always: it fits its row
+abbrev pub row_tests : CommandName → Line → List Test
+row_tests name line =
+    coded line Duplicate ∷ coded line NoId ∷ (not (fits_row name line), InvalidOptions) ∷ []
 
 abbrev pub break_refusal : Bool → Option Line → Option ErrorCode
 break_refusal runs None = None
@@ -55,7 +56,7 @@ break_refusal runs (Some line) = first_code (break_tests runs line)
 
 abbrev pub status_refusal : Option Line → Option ErrorCode
 status_refusal None = None
-status_refusal (Some line) = first_code (status_tests line)
+status_refusal (Some line) = first_code (row_tests Status line)
 
 -- this response, or the refusal where there is one
 abbrev pub unless_refused : Option ErrorCode → Option Line → Response → Response
@@ -76,11 +77,6 @@ running_response line =
 
 -- ---- while no continuation is on its way
 
--- the tests of a `feature_get`, which is there always
-abbrev pub feature_tests : Line → List Test
-feature_tests line =
-    coded line Duplicate ∷ coded line NoId ∷ (not (fits_row FeatureGet line), InvalidOptions) ∷ []
-
 -- what is told of a feature that only a session that listens has: `supports_async` is 1, and the
 -- command `break` is there
 abbrev pub listening_feature : Option Line → Text → Option Response
@@ -95,7 +91,7 @@ listening_feature line name =
 -- the response to a `feature_get` that is not refused and asks for one of these
 abbrev pub own_feature : Line → Option Response
 own_feature line =
-    if bytes_eq (codes "feature_get") line.name && is_none (first_code (feature_tests line))
+    if bytes_eq (codes "feature_get") line.name && is_none (first_code (row_tests FeatureGet line))
     then listening_feature (Some line) (text_given letter.n line.options) else None
 
 -- The response that only a session that listens gives to a line while no continuation is on its

@@ -9,10 +9,8 @@ ghost use Rattle.dp_async.specs.Listens as spec;
 ghost use Rattle.dp_async.specs.inner.Standing.{IsRunningAnswer};
 ghost use Rattle.dp_wire.specs.Frames.{IsPacketText};
 
-use crate::commands::{
-    asks_for_status, asks_to_break, break_refusal, feature_refusal, is_text, status_refusal,
-};
-use dp_command::{Addressee, Line, option_value};
+use crate::commands::{asks_for_status, asks_to_break, break_refusal, is_text, row_refusal};
+use dp_command::{Addressee, CommandName, Line, option_value};
 use dp_engine::{fault_text, feature_text, status_text, success_text};
 use dp_packet::ErrorCode;
 use dp_value::{Bytes, Memory};
@@ -43,7 +41,7 @@ pub(crate) fn running_text(alloc: Global, line: &Line) -> Result<Bytes, Memory>
     ensures is_text { IfOk result IsPacketText }
 {
     let to = Addressee::of(alloc, line)?;
-    match status_refusal(line) {
+    match row_refusal(CommandName::Status, line) {
         Some(code) => fault_text(alloc, &to, code),
         None => status_text(alloc, &to, b"running", b"ok"),
     }
@@ -81,7 +79,9 @@ fn own_feature(alloc: Global, line: &Line) -> Result<Option<Bytes>, Memory>
     ensures text { IfOk result (λ found. found ≡ option_map response_text (spec.own_feature line.now)) }
     ensures is_text { IfOk result (λ found. IfSome found IsPacketText) }
 {
-    if !is_text(line.name.as_slice(), b"feature_get") || feature_refusal(line).is_some() {
+    if !is_text(line.name.as_slice(), b"feature_get")
+        || row_refusal(CommandName::FeatureGet, line).is_some()
+    {
         return Ok(None);
     }
     listening_feature(alloc, line, text_given(line))

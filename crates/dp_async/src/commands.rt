@@ -74,9 +74,9 @@ pub(crate) fn break_refusal(line: &Line, runs: bool) -> Option<ErrorCode>
     None
 }
 
-/// Why a `status` is refused while the program runs. Takes no memory.
-pub(crate) fn status_refusal(line: &Line) -> Option<ErrorCode>
-    ensures { result ≡ first_code (spec.status_tests line.now) }
+/// Why a command that is there always is refused. Takes no memory.
+pub(crate) fn row_refusal(name: CommandName, line: &Line) -> Option<ErrorCode>
+    ensures { result ≡ first_code (spec.row_tests name line.now) }
 {
     if has_duplicate(line.options.as_slice()) {
         return Some(ErrorCode::DuplicateArguments);
@@ -84,23 +84,7 @@ pub(crate) fn status_refusal(line: &Line) -> Option<ErrorCode>
     if id_of(line).is_empty() {
         return Some(ErrorCode::InvalidOptions);
     }
-    if !fits_row(CommandName::Status, line) {
-        return Some(ErrorCode::InvalidOptions);
-    }
-    None
-}
-
-/// Why a `feature_get` is refused. Takes no memory.
-pub(crate) fn feature_refusal(line: &Line) -> Option<ErrorCode>
-    ensures { result ≡ first_code (spec.feature_tests line.now) }
-{
-    if has_duplicate(line.options.as_slice()) {
-        return Some(ErrorCode::DuplicateArguments);
-    }
-    if id_of(line).is_empty() {
-        return Some(ErrorCode::InvalidOptions);
-    }
-    if !fits_row(CommandName::FeatureGet, line) {
+    if !fits_row(name, line) {
         return Some(ErrorCode::InvalidOptions);
     }
     None
