@@ -51,6 +51,12 @@ run-Variable name = ap expression_run (sym (tree.rolls-Variable name))
     ∙ fold-roll-Expression ExpressionRun ItemRun LinkRun PlaceRun expression_layer item_layer link_layer place_layer
     (Expression-F.Variable name)
 
+pub run-Constant : (name : List ℕ) → expression_run (tree.Constant name) ≡ expression_layer (Expression-F.Constant name)
+unfolding expression_run item_run_of link_run place_run
+run-Constant name = ap expression_run (sym (tree.rolls-Constant name))
+    ∙ fold-roll-Expression ExpressionRun ItemRun LinkRun PlaceRun expression_layer item_layer link_layer place_layer
+    (Expression-F.Constant name)
+
 pub run-Array : (items : List Item)
     → expression_run (tree.Array items) ≡ expression_layer (Expression-F.Array (map item_run_of items))
 unfolding expression_run item_run_of link_run place_run
@@ -215,6 +221,7 @@ found-plain e other = go (out-Expression e) (sym (roll-out-Expression e))
     go (Expression-F.Number n) is = same (tree.Number n) (is ∙ tree.rolls-Number n) _ (run-Number n)
     go (Expression-F.Text bytes) is = same (tree.Text bytes) (is ∙ tree.rolls-Text bytes) _ (run-Text bytes)
     go (Expression-F.Variable name) is = same (tree.Variable name) (is ∙ tree.rolls-Variable name) _ (run-Variable name)
+    go (Expression-F.Constant name) is = same (tree.Constant name) (is ∙ tree.rolls-Constant name) _ (run-Constant name)
     go (Expression-F.Array items) is = same (tree.Array items) (is ∙ tree.rolls-Array items) _ (run-Array items)
     go (Expression-F.Call name arguments) is =
         same (tree.Call name arguments) (is ∙ tree.rolls-Call name arguments) _ (run-Call name arguments)

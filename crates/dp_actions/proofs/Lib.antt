@@ -8,3 +8,4 @@ pub mod Texts
 pub mod PureParts
 pub mod ObservedValues
 pub mod MissingPlaces
+pub mod ConstantLaws

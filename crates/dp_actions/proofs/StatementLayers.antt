@@ -3,6 +3,7 @@ use Rattle.std.proofs.Common.{◌≡◌, ℕ, List, map, Option, Some, None, sym
 use Rattle.std.specs.Prelude.{option_map}
 use Rattle.dp_tree.specs.declared.tree.Arm.{Arm}
 use Rattle.dp_tree.specs.declared.tree.Binding.{Binding}
+use Rattle.dp_tree.specs.declared.tree.Definition.{Definition}
 use Rattle.dp_tree.specs.declared.tree.Expression.{Expression}
 use Rattle.dp_tree.specs.declared.tree.Place.{Place}
 use Rattle.dp_tree.specs.declared.tree.Statement.{Statement}
@@ -101,6 +102,13 @@ unfolding kind_run arm_run statement_run
 kind-Unset places = ap kind_run (sym (kind.rolls-Unset places))
     ∙ fold-roll-StatementKind KindRun ArmRun (Part Signal) kind_layer arm_layer statement_layer
     (StatementKind-F.Unset places)
+
+pub kind-Constants : (all : List Definition)
+    → kind_run (kind.Constants all) ≡ kind_layer (StatementKind-F.Constants all)
+unfolding kind_run arm_run statement_run
+kind-Constants all = ap kind_run (sym (kind.rolls-Constants all))
+    ∙ fold-roll-StatementKind KindRun ArmRun (Part Signal) kind_layer arm_layer statement_layer
+    (StatementKind-F.Constants all)
 
 pub kind-Exit : (value : Option Expression) → kind_run (kind.Exit value) ≡ kind_layer (StatementKind-F.Exit value)
 unfolding kind_run arm_run statement_run

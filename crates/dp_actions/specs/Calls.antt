@@ -1,7 +1,8 @@
 -- What a name calls, and what includes a file.
 use Rattle.std.specs.Prelude.{ℕ, false, List, map, Option, Some, None}
 use Rattle.std.specs.Option.{option_map_or}
-use Rattle.dp_tree.specs.declared.operators.Builtin.{Builtin}
+use Rattle.dp_tree.specs.declared.operators.Native.{Native}
+use Rattle.dp_tree.specs.declared.operators.Native.TheVariants.{Table, Define, Defined}
 use Rattle.dp_value.specs.declared.value.Value.{Value}
 use Rattle.dp_value.specs.declared.value.Value.TheVariants.{Bool}
 use Rattle.dp_value.specs.Value.{data_of}
@@ -19,13 +20,14 @@ use Rattle.dp_tree.specs.Files.{file_named, function_at}
 use Rattle.dp_state.specs.Functions.{declared_function}
 use Rattle.dp_actions.specs.declared.callees.Callee.{Callee as Called}
 use Rattle.dp_actions.specs.declared.callees.Callee.TheVariants as called
-use Rattle.dp_actions.specs.Run.{Done, fatal, ◌>>=◌}
+use Rattle.dp_actions.specs.Constants.{define_run, defined_run}
+use Rattle.dp_actions.specs.Run.{Run, Done, fatal, ◌>>=◌}
 use Rattle.dp_actions.specs.Setting.{Part}
 use Rattle.dp_actions.specs.Values.{builtin_run}
 
 -- what a name calls: a built-in function, or one of the file of this number
 pub data Callee : Type 0 where
-  BuiltIn : Builtin → Callee
+  BuiltIn : Native → Callee
   Declared : ℕ → Function → Callee
 
 -- what a call finds under a name
@@ -43,8 +45,14 @@ callee bundle name s =
     option_map_or (λ b. Some (BuiltIn b)) (builtin_named name)
     (option_map_or (declared_callee bundle) (declared_function bundle name s.declared) None)
 
+-- a built-in function of these values
+abbrev pub native_run : Native → List Value → State → Run Value
+native_run (Table b) values s = builtin_run (builtin_of b (map data_of values)) s
+native_run Define values s = define_run values s
+native_run Defined values s = defined_run values s
+
 abbrev pub callee_run : Callee → List Value → Part Value
-callee_run (BuiltIn b) values setting s = builtin_run (builtin_of b (map data_of values)) s
+callee_run (BuiltIn b) values setting s = native_run b values s
 callee_run (Declared file f) values setting s = setting.call file f values s
 
 -- a call: the name is looked up, then the arguments are evaluated

@@ -21,6 +21,7 @@ use Rattle.dp_tree.specs.declared.tree.Operator.TheVariants.{Or, And, Of}
 use Rattle.dp_tree.specs.declared.tree.Place.{Place, fold-Place}
 use Rattle.dp_state.specs.Places.{keys_of_indices}
 use Rattle.dp_actions.specs.Calls.{call_run, callee, include_run}
+use Rattle.dp_actions.specs.Constants.{constant_run}
 use Rattle.dp_actions.specs.Places.{PlaceRun, variable, assignment, compound, coalescing, step, isset_run}
 use Rattle.dp_actions.specs.Run.{Done, ◌>>=◌}
 use Rattle.dp_actions.specs.Setting.{Part}
@@ -157,6 +158,7 @@ expression_layer (Expression-F.Bool b) = plain (λ setting s. Done (value.Bool b
 expression_layer (Expression-F.Number n) = plain (λ setting s. Done (value.Int n) s)
 expression_layer (Expression-F.Text bytes) = plain (λ setting s. Done (value.Text bytes) s)
 expression_layer (Expression-F.Variable name) = plain (λ setting s. Done (variable name s) s)
+expression_layer (Expression-F.Constant name) = plain (λ setting s. constant_run name s)
 expression_layer (Expression-F.Array items) = plain (items_run items (value.Array empty))
 expression_layer (Expression-F.Call name arguments) =
     plain (λ setting s. call_run (callee setting.bundle name s) (values_run arguments) setting s)

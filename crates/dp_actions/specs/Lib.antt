@@ -5,6 +5,7 @@ pub mod After
 pub mod Values
 pub mod InPlace
 pub mod Places
+pub mod Constants
 pub mod Calls
 pub mod Bodies
 pub mod Loops

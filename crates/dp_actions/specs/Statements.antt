@@ -4,12 +4,14 @@ use Rattle.dp_value.specs.declared.value.Value.{Value}
 use Rattle.dp_value.specs.declared.value.Value.TheVariants.{Null}
 use Rattle.dp_tree.specs.declared.tree.Arm.{Arm, fold-Arm}
 use Rattle.dp_tree.specs.declared.tree.Binding.{Binding}
+use Rattle.dp_tree.specs.declared.tree.Definition.{Definition}
 use Rattle.dp_tree.specs.declared.tree.Expression.{Expression}
 use Rattle.dp_tree.specs.declared.tree.Statement.{Statement, fold-Statement}
 use Rattle.dp_tree.specs.declared.tree.StatementKind.TheOpen.{Statement-F, StatementKind-F, Arm-F}
 use Rattle.dp_state.specs.declared.moments.MomentKind.TheVariants as moment
 use Rattle.dp_state.specs.declared.moments.Outcome.TheVariants.{Exit}
 use Rattle.dp_state.specs.declared.state.State.{State}
+use Rattle.dp_state.specs.Constants.{with_constant}
 use Rattle.dp_actions.specs.declared.signal.Signal.{Signal}
 use Rattle.dp_actions.specs.declared.signal.Signal.TheVariants.{Next, Break, Continue, Return}
 use Rattle.dp_actions.specs.Expressions.{ExpressionRun, expression_run, evaluation, evaluations, place_run}
@@ -52,6 +54,16 @@ echoed rest v s = print_run v s >>= λ _ t. rest t
 abbrev pub echoes : List ExpressionRun → Part Signal
 echoes [] setting s = Done Next s
 echoes (first ∷ rest) setting s = first.value setting s >>= echoed (echoes rest setting)
+
+-- a constant gets a value, unless there is one of its name, and then come the others
+abbrev pub defined_then : List ℕ → (State → Run Signal) → Value → State → Run Signal
+defined_then name rest v s = rest (with_constant name v s)
+
+-- `const`: each value is evaluated and its constant defined before the next
+abbrev pub constants_run : List Definition → Part Signal
+constants_run [] setting s = Done Next s
+constants_run (first ∷ rest) setting s =
+    evaluation first.value setting s >>= defined_then first.name (constants_run rest setting)
 
 -- the arms of an `if`, and what is done where no test holds
 abbrev pub arms_run : List ArmRun → Option (Part Signal) → Part Signal
@@ -130,6 +142,8 @@ kind_layer (StatementKind-F.Global names) line setting s =
     placed line s (λ t. Done Next (with_globals names t))
 kind_layer (StatementKind-F.Unset places) line setting s =
     placed line s (λ t. unset_run (map place_run places) setting t >>= then_next)
+kind_layer (StatementKind-F.Constants all) line setting s =
+    placed line s (λ t. constants_run all setting t)
 kind_layer (StatementKind-F.Exit value) line setting s =
     placed line s (λ t. end_run value setting t)
 

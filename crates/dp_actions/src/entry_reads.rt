@@ -88,8 +88,8 @@ pub(crate) fn is_missing_by(
     }
 }
 
-/// The value of a built-in function of these values, which are lent to it.
-pub fn builtin_call(
+/// The value of a function of the table of these values, which are lent to it.
+pub(crate) fn builtin_call(
     alloc: Global,
     function: Builtin,
     values: &[Value],

@@ -3,6 +3,7 @@
 #![tactic(auto, using(crate::proofs::AtOnceLaws::acting))]
 
 use crate::after::then_unary;
+use crate::constants::constant_value;
 use crate::entry_reads::Reading;
 use crate::halt::Halt;
 use crate::observer::Observer;
@@ -29,6 +30,7 @@ impl Observer<'_> {
             Expression::Number(n) => Ok(Value::Int(*n)),
             Expression::Text(bytes) => text_value(self.alloc, bytes),
             Expression::Variable(name) => variable_value(name, self.state),
+            Expression::Constant(name) => constant_value(name, self.state),
             Expression::Array(items) => self.array(items.as_slice()),
             Expression::Isset(places) => self.isset(places.as_slice()),
             Expression::Index(base, indices) => {

@@ -31,6 +31,7 @@ module _ (deep : List ℕ → Bool) where
   expression_layer (Expression-F.Number _) = false
   expression_layer (Expression-F.Text _) = false
   expression_layer (Expression-F.Variable _) = false
+  expression_layer (Expression-F.Constant _) = false
   expression_layer (Expression-F.Array items) = any_part items
   expression_layer (Expression-F.Call name arguments) = deep name || any_part arguments
   expression_layer (Expression-F.Isset places) = any_part places
@@ -81,6 +82,7 @@ module _ (deep : List ℕ → Bool) where
   kind_layer (StatementKind-F.Return value) = option_map_or is_deep value false
   kind_layer (StatementKind-F.Global names) = false
   kind_layer (StatementKind-F.Unset places) = list_any place_is_deep places
+  kind_layer (StatementKind-F.Constants all) = list_any (λ d. is_deep d.value) all
   kind_layer (StatementKind-F.Exit value) = option_map_or is_deep value false
 
   abbrev pub statement_is_deep : Statement → Bool

@@ -9,7 +9,7 @@ ghost use Rattle.dp_depth.specs.Depth.{is_named};
 ghost use Rattle.dp_depth.specs.inner.Parts as parts;
 
 use crate::names::DeepNames;
-use dp_tree::{Arm, Boxed, Expression, Item, Link, Place, Statement, StatementKind};
+use dp_tree::{Arm, Boxed, Definition, Expression, Item, Link, Place, Statement, StatementKind};
 
 /// Whether a statement may come to a deep call.
 #[cycle(statements)]
@@ -56,6 +56,7 @@ fn kind_is_deep<'p>(deep: &DeepNames<'p>, kind: &'p StatementKind) -> bool
         StatementKind::Return(value) => is_deep_if_any(deep, value),
         StatementKind::Exit(value) => is_deep_if_any(deep, value),
         StatementKind::Unset(places) => places_are_deep(deep, places.as_slice()),
+        StatementKind::Constants(all) => constants_are_deep(deep, all.as_slice()),
         StatementKind::Empty
         | StatementKind::Break(_)
         | StatementKind::Continue(_)
@@ -110,6 +111,18 @@ fn is_deep_if_any<'p>(deep: &DeepNames<'p>, e: &'p Option<Expression>) -> bool
     }
 }
 
+/// Whether the value of one of these constants is deep.
+fn constants_are_deep<'p>(deep: &DeepNames<'p>, all: &'p [Definition]) -> bool
+    ensures { result ≡ list_any (λ d. depth.is_deep (is_named deep.now) d.value) all.now }
+{
+    for definition in all {
+        if is_deep(deep, &definition.value) {
+            return true;
+        }
+    }
+    false
+}
+
 /// Whether an expression may come to a deep call.
 #[cycle(expressions)]
 pub fn is_deep<'p>(deep: &DeepNames<'p>, e: &'p Expression) -> bool
@@ -120,7 +133,8 @@ pub fn is_deep<'p>(deep: &DeepNames<'p>, e: &'p Expression) -> bool
         | Expression::Bool(_)
         | Expression::Number(_)
         | Expression::Text(_)
-        | Expression::Variable(_) => false,
+        | Expression::Variable(_)
+        | Expression::Constant(_) => false,
         Expression::Call(name, arguments) => deep.has(name) || any_deep(deep, arguments.as_slice()),
         Expression::Include(_, _) => true,
         Expression::Array(items) => items_are_deep(deep, items.as_slice()),

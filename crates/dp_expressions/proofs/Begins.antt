@@ -11,12 +11,12 @@ use Rattle.dp_token_rules.specs.declared.terminal.Terminal.TheVariants as termin
 use Rattle.dp_tree.specs.declared.tree.Expression.{Expression}
 use Rattle.dp_tree.specs.declared.tree.Expression.TheVariants as tree
 use Rattle.dp_tree.specs.declared.tree.Order.TheVariants.{StepFirst}
-use Rattle.dp_token_rules.specs.Terminals.{terminal_of, same_terminal, is, is_superglobal}
+use Rattle.dp_token_rules.specs.Terminals.{terminal_of, reserved_terminal, same_terminal, is, is_superglobal}
 use Rattle.dp_token_rules.specs.Rules.{Rule, Joined, Gives, Made, One, Mark, Closed, Perhaps}
 use Rattle.dp_token_rules.specs.Lists.{NextItem, SomeItems, AnyItems}
 use Rattle.dp_expressions.specs.Grammar.{prefix_in, step_in, inclusion_in, constant_in, place, value_of, Ladder, ranks, OperandRule, CoalesceRule, CoalesceRest, ConditionalRest, Primary, PlaceOf, PlaceRule, inner, Links, chained}
 use Rattle.dp_expressions.specs.inner.Readers.{begins_expression, tree_of}
-use Rattle.dp_token_rules.proofs.Terminals.{placed, mark_passes, mark_alone, implied}
+use Rattle.dp_token_rules.proofs.Terminals.{placed, mark_passes, mark_alone, implied, reserved_fails}
 use Rattle.dp_token_rules.proofs.Answers.{Rules, JoinedAt, OneAt, MadeAt, StartsIn, give, behind, joined_starts, made_starts, or_starts, starts_in_more}
 use Rattle.dp_token_rules.proofs.Readers.{marked}
 use Rattle.dp_token_rules.specs.TokenValues.{Text, unless, variable_in, name_in, number_in, text_in, by_terminal, by_kind}
@@ -281,24 +281,17 @@ module _ (x : Token) where
       )
 
   by_name : (name : Text) → name_in x.kind ≡ Some name → Opened x
-  by_name name e =
-      let close = placed kind.CloseParenthesis ∷ [] in
-      let open_ = placed kind.OpenParenthesis in
-      let items = AnyItems (λ _. Under part.Whole 1) terminal.CloseParenthesis in (
-        open_ ∷ close,
-        tree.Call name [],
-        whole_of 1 (x ∷ (open_ ∷ close)) (tree.Call name []) (primary_of 1 (x ∷ (open_ ∷ close)) (tree.Call name [])
-            (inr (inr (inr (inr (inr (record {
-              some = omega arith;
-              spelled =
-                  behind (One (by_kind name_in)) (λ name. Joined (Mark terminal.OpenParenthesis)
-                  (λ _. Made items (tree.Call name))) (x ∷ []) (open_ ∷ close) name (tree.Call name [])
-                  (record { symbol = x; alone = refl; is_worth = e })
-                  (marked terminal.OpenParenthesis open_ (Made items (tree.Call name)) close (tree.Call name []) refl
-                  (give items (tree.Call name) close [] (no_items
-                  (λ _. Under part.Whole 1) terminal.CloseParenthesis kind.CloseParenthesis refl)));
-            }))))))),
-      )
+  by_name name e = (
+    [],
+    tree.Constant name,
+    whole_of 1 (x ∷ []) (tree.Constant name)
+        (primary_of 1 (x ∷ []) (tree.Constant name)
+        (inr (inr (inr (inr (inr (inr (give (One (by_kind name_in)) tree.Constant (x ∷ []) name (record {
+          symbol = x;
+          alone = refl;
+          is_worth = e;
+        }))))))))),
+  )
 
   one_place : SomeItems (λ _. PlaceUnder 1) terminal.CloseParenthesis
       (placed (kind.Variable variable_name) ∷ (placed kind.CloseParenthesis ∷ [])) (variable_place ∷ [])
@@ -345,8 +338,8 @@ module _ (x : Token) where
   variable_opens name false is e begins = by_variable name (ap variable_in e ∙ ap (λ b. unless b name) is)
 
   name_opens : (name : Text) (b : Bool) → is_reserved name ≡ b → x.kind ≡ kind.Name name
-      → begins_expression (cond b terminal.Reserved terminal.Name) ≡ true → Opened x
-  name_opens name true is e begins = absurd (cc)
+      → begins_expression (cond b (reserved_terminal name) terminal.Name) ≡ true → Opened x
+  name_opens name true is e begins = let none = reserved_fails begins_expression name refl refl in absurd (cc)
   name_opens name false is e begins = by_name name (ap name_in e ∙ ap (λ b. unless b name) is)
 
   by_kind_of : (k : TokenKind) → x.kind ≡ k → begins_expression (terminal_of k) ≡ true → Opened x

@@ -16,7 +16,7 @@ use Rattle.dp_token_rules.specs.inner.Input.{Reader}
 use Rattle.dp_token_rules.specs.Rules.{Joined, Made, Mark}
 use Rattle.dp_token_rules.specs.Lists.{SomeItems, AnyItems}
 use Rattle.dp_expressions.specs.Grammar.{prefix_in, step_in, inclusion_in, constant_in, place, indexed, PlaceOf, Index, PlaceRule, Group, ItemRule, Literal, ArrayCall, Call, Isset, Primary, Prefixed, SteppedFirst, OperandRule, CoalesceRule, ConditionalRule, IncludeRule, ExpressionRule, inner}
-use Rattle.dp_token_rules.proofs.Answers.{Rules, Stop, JoinedAt, EitherAt, GivesAt, OneAt, MarkAt, MadeAt, ManyAt, Answers, Can, StartsIn, mark_starts, joined_starts, made_starts, or_starts, under_answers}
+use Rattle.dp_token_rules.proofs.Answers.{Rules, Stop, JoinedAt, EitherAt, GivesAt, OneAt, MarkAt, MadeAt, ManyAt, Answers, Can, StartsIn, mark_starts, joined_starts, made_starts, either_starts, or_starts, under_answers}
 use Rattle.dp_expressions.proofs.Heights.{stop_at}
 use Rattle.dp_expressions.proofs.Least.{zero_text, zero_tree, least_whole, least_coalesce, least_operand}
 use Rattle.dp_expressions.proofs.Factored.{PrimaryIndexed, OtherRule, OpeningRule}
@@ -121,6 +121,13 @@ ArrayCallAt m = ArrayCall m (inner m)
 
 abbrev pub CallAt : Rules ℕ Expression
 CallAt m = Call m (inner m)
+
+abbrev pub ConstantNameAt : Rules ℕ Expression
+ConstantNameAt = MadeAt (OneAt (by_kind name_in)) tree.Constant
+
+-- what begins with a name
+abbrev pub NamedAt : Rules ℕ Expression
+NamedAt = EitherAt CallAt ConstantNameAt
 
 abbrev pub IssetAt : Rules ℕ Expression
 IssetAt m = Isset m (inner m)
@@ -247,6 +254,11 @@ call_starts m text a h =
     (λ _. Made (AnyItems (λ _. Under part.Whole m) terminal.CloseParenthesis) (tree.Call name)))
     (is terminal.Name) name_starts m text a h.spelled
 
+pub named_starts : StartsIn NamedAt (is terminal.Name)
+named_starts =
+    either_starts CallAt ConstantNameAt (is terminal.Name) call_starts
+    (made_starts (OneAt (by_kind name_in)) tree.Constant (is terminal.Name) name_starts)
+
 pub isset_starts : StartsIn IssetAt (is terminal.Isset)
 isset_starts m text a h =
     joined_starts (MarkAt terminal.Isset) (λ _ m. Joined (Mark terminal.OpenParenthesis)
@@ -269,29 +281,30 @@ number_rule_starts = made_starts (OneAt (by_kind number_in)) tree.Number (is ter
 pub text_rule_starts : StartsIn TextAt (is terminal.Text)
 text_rule_starts = made_starts (OneAt (by_kind text_in)) tree.Text (is terminal.Text) text_starts
 
-pub behind_array_starts : StartsIn (EitherAt ArrayCallAt CallAt) begins_behind_array
-behind_array_starts = or_starts ArrayCallAt CallAt (is terminal.Array) (is terminal.Name) array_call_starts call_starts
+pub behind_array_starts : StartsIn (EitherAt ArrayCallAt NamedAt) begins_behind_array
+behind_array_starts =
+    or_starts ArrayCallAt NamedAt (is terminal.Array) (is terminal.Name) array_call_starts named_starts
 
-pub behind_bracket_starts : StartsIn (EitherAt LiteralAt (EitherAt ArrayCallAt CallAt)) begins_behind_bracket
+pub behind_bracket_starts : StartsIn (EitherAt LiteralAt (EitherAt ArrayCallAt NamedAt)) begins_behind_bracket
 behind_bracket_starts =
-    or_starts LiteralAt (EitherAt ArrayCallAt CallAt) (is terminal.OpenBracket) begins_behind_array literal_starts
+    or_starts LiteralAt (EitherAt ArrayCallAt NamedAt) (is terminal.OpenBracket) begins_behind_array literal_starts
     behind_array_starts
 
-pub behind_group_starts : StartsIn (EitherAt GroupAt (EitherAt LiteralAt (EitherAt ArrayCallAt CallAt)))
+pub behind_group_starts : StartsIn (EitherAt GroupAt (EitherAt LiteralAt (EitherAt ArrayCallAt NamedAt)))
     begins_behind_group
 behind_group_starts =
-    or_starts GroupAt (EitherAt LiteralAt (EitherAt ArrayCallAt CallAt))
+    or_starts GroupAt (EitherAt LiteralAt (EitherAt ArrayCallAt NamedAt))
     (is terminal.OpenParenthesis) begins_behind_bracket group_starts behind_bracket_starts
 
 pub behind_constant_starts : StartsIn (EitherAt ConstantAt (EitherAt GroupAt
-    (EitherAt LiteralAt (EitherAt ArrayCallAt CallAt)))) begins_behind_constant
+    (EitherAt LiteralAt (EitherAt ArrayCallAt NamedAt)))) begins_behind_constant
 behind_constant_starts =
-    or_starts ConstantAt (EitherAt GroupAt (EitherAt LiteralAt (EitherAt ArrayCallAt CallAt))) begins_constant
+    or_starts ConstantAt (EitherAt GroupAt (EitherAt LiteralAt (EitherAt ArrayCallAt NamedAt))) begins_constant
     begins_behind_group (sort_starts constant_in) behind_group_starts
 
 pub primary_starts : StartsIn PrimaryAt begins_primary
 primary_starts =
-    or_starts TextAt (EitherAt ConstantAt (EitherAt GroupAt (EitherAt LiteralAt (EitherAt ArrayCallAt CallAt))))
+    or_starts TextAt (EitherAt ConstantAt (EitherAt GroupAt (EitherAt LiteralAt (EitherAt ArrayCallAt NamedAt))))
     (is terminal.Text) begins_behind_constant text_rule_starts behind_constant_starts
 
 pub primary_indexed_starts : StartsIn PrimaryIndexedAt begins_primary

@@ -8,8 +8,10 @@ use Rattle.dp_token_rules.specs.declared.terminal.Terminal.TheVariants as termin
 use Rattle.dp_expressions.specs.Grammar.{operator_in}
 use Rattle.dp_token_rules.proofs.Terminals.{all_terminals, implied}
 
--- How loosely such a token goes on with an expression. The last number is that of tokens that go on with none.
+-- How loosely such a token goes on with an expression: a parenthesis with a name alone. The last number is that of
+-- tokens that go on with none.
 abbrev pub height : Terminal → ℕ
+height terminal.OpenParenthesis = 0
 height terminal.OpenBracket = 1
 height terminal.Increment = 2
 height terminal.Decrement = 2

@@ -16,22 +16,22 @@ use Rattle.dp_tree.specs.declared.tree.Place.{Place}
 use Rattle.dp_tree.specs.declared.tree.Item.{Item}
 use Rattle.dp_tree.specs.declared.tree.Order.TheVariants.{StepFirst, ValueFirst}
 use Rattle.dp_token_rules.specs.Terminals.{terminal_of, same_terminal, is, head}
-use Rattle.dp_token_rules.specs.inner.Input.{Reader, ◌>>=◌, ◌>>◌, gives, made, refuse, one, mark, enter, sort, variable}
+use Rattle.dp_token_rules.specs.inner.Input.{Outcome, Reader, ◌>>=◌, ◌>>◌, gives, made, refuse, one, mark, enter, sort, variable}
 use Rattle.dp_token_rules.specs.Rules.{Rule, Joined, Made, Mark, One, Many, Closed, Perhaps}
 use Rattle.dp_token_rules.specs.Lists.{NextItem, AnyItems, SomeItems}
 use Rattle.dp_token_rules.specs.inner.ListReaders.{some_items, any_items, many}
 use Rattle.dp_expressions.specs.Grammar.{prefix_in, step_in, constant_in, place, item, indexed, PlaceOf, ItemRest, inner}
-use Rattle.dp_expressions.specs.inner.Readers.{begins_expression, tree_of, index, indices, place_rule, place_below, group, item_rest, item_rule, literal, array_call, call, isset, primary, prefixed, stepped_first, other, step_last, alone}
+use Rattle.dp_expressions.specs.inner.Readers.{begins_expression, tree_of, index, indices, place_rule, place_below, group, item_rest, item_rule, literal, array_call, call, behind_name, named, isset, primary, prefixed, stepped_first, other, step_last, alone}
 use Rattle.dp_token_rules.proofs.Terminals.{and_parts, not_true, placed, mark_passes, mark_of, excluded, implied}
-use Rattle.dp_token_rules.proofs.Answers.{Rules, Anything, JoinedAt, EitherAt, GivesAt, OneAt, MarkAt, MadeAt, ManyAt, Answers, Follows, Can, StartsIn, give, behind, mark_starts, joined_starts, made_starts, gives_apart, starts_follow, gives_follow, either_follows, anything_follows, one_answers, made_answers, gives_answers, joined_answers, equal_answers, stricter_answers, either_answers, guarded_answers}
-use Rattle.dp_token_rules.proofs.Loops.{many_none, many_answers}
+use Rattle.dp_token_rules.proofs.Answers.{Rules, Anything, JoinedAt, EitherAt, GivesAt, OneAt, MarkAt, MadeAt, ManyAt, Answers, Follows, Can, StartsIn, give, behind, mark_starts, joined_starts, made_starts, nests_starts, starts_in_more, gives_apart, starts_follow, gives_follow, either_follows, one_answers, made_answers, gives_answers, joined_answers, equal_answers, stricter_answers, either_answers, guarded_answers}
+use Rattle.dp_token_rules.proofs.Loops.{closed_follows, many_none, many_answers}
 use Rattle.dp_token_rules.proofs.Readers.{marked, mark_then, made_reads, then_mark}
 use Rattle.dp_token_rules.proofs.ListAnswers.{AreItems, AnyItemsAt, SomeItemsAt, any_items_answers, some_items_answers, any_items_can, some_items_can}
 use Rattle.dp_expressions.proofs.Heights.{looser, stop_at, looser_less}
 use Rattle.dp_expressions.proofs.Least.{zero_token, zero_text, zero_tree, variable_name, variable_text, variable_place, gives_it, no_more, then_nothing, least_whole, least_operand, least_place}
 use Rattle.dp_expressions.proofs.Factored.{StepLast, to_operand, from_operand}
-use Rattle.dp_token_rules.proofs.More.{level_self, sort_starts, one_of_sort, name_token, one_then, choice_answers, NestedAt, nested_answers}
-use Rattle.dp_expressions.proofs.ExpressionParts.{Under, Reads, inner_answers, some_whole_under, some_alone_under, IndexAt, PlaceAt, PlaceUnder, GroupAt, ItemAt, LiteralAt, ArrayCallAt, CallAt, IssetAt, PrimaryAt, PrimaryIndexedAt, PrefixedAt, SteppedFirstAt, NumberAt, TextAt, ConstantAt, OtherAt, OperandAt, begins_constant, begins_prefix, begins_step, begins_behind_array, begins_behind_bracket, begins_behind_group, begins_behind_constant, begins_primary, begins_behind_isset, begins_behind_number, begins_behind_step, begins_other, index_starts, index_under_starts, place_starts, place_under_starts, group_starts, literal_starts, array_call_starts, call_starts, isset_starts, prefixed_starts, stepped_first_starts, number_rule_starts, text_rule_starts, behind_array_starts, behind_bracket_starts, behind_group_starts, behind_constant_starts, primary_indexed_starts, behind_isset_starts, behind_number_starts, behind_step_starts, other_starts}
+use Rattle.dp_token_rules.proofs.More.{level_self, sort_starts, one_of_sort, one_then, made_follows, choice_answers, NestedAt, nested_answers}
+use Rattle.dp_expressions.proofs.ExpressionParts.{Under, Reads, inner_answers, some_whole_under, some_alone_under, IndexAt, PlaceAt, PlaceUnder, GroupAt, ItemAt, LiteralAt, ArrayCallAt, NamedAt, IssetAt, PrimaryAt, PrimaryIndexedAt, PrefixedAt, SteppedFirstAt, NumberAt, TextAt, ConstantAt, OtherAt, OperandAt, begins_constant, begins_prefix, begins_step, begins_behind_array, begins_behind_bracket, begins_behind_group, begins_behind_constant, begins_primary, begins_behind_isset, begins_behind_number, begins_behind_step, begins_other, index_starts, index_under_starts, place_starts, place_under_starts, group_starts, literal_starts, array_call_starts, named_starts, isset_starts, prefixed_starts, stepped_first_starts, number_rule_starts, text_rule_starts, behind_array_starts, behind_bracket_starts, behind_group_starts, behind_constant_starts, primary_indexed_starts, behind_isset_starts, behind_number_starts, behind_step_starts, other_starts}
 use Rattle.dp_expressions.proofs.Begins.{whole_under_starts}
 use Rattle.dp_token_rules.specs.TokenValues.{Text, variable_in, name_in, number_in, text_in, by_terminal, by_kind}
 
@@ -306,6 +306,11 @@ operand_stop (opened.Push p) s = true
 operand_stop (opened.Other e) s = looser 2 s
 
 module _ (level : ℕ) (read : Part → Reader Expression) (reads : Reads level read) where
+  -- what ends by itself ends before what is no parenthesis
+  ends_itself : (rule : Rules ℕ Expression) (ts : List Token) (o : Outcome Expression)
+      → Answers ◌≤◌ rule Anything level ts o → Answers ◌≤◌ rule (stop_at 0) level ts o
+  ends_itself rule ts o = stricter_answers ◌≤◌ level_self rule Anything (stop_at 0) level ts (λ a s e. refl) o
+
   abbrev ItemsAt : Terminal → Rules ℕ (List Item)
   ItemsAt close = AnyItemsAt (λ _. ItemAt) close
 
@@ -394,33 +399,96 @@ module _ (level : ℕ) (read : Part → Reader Expression) (reads : Reads level 
       (any_items_answers ◌≤◌ level_self (λ _. Under part.Whole) terminal.CloseParenthesis
       (stop_at 12) begins_expression level (λ _. read part.Whole) items)
 
-  some_call : (m : ℕ) (name : Text)
-      → ListedAt terminal.OpenParenthesis ArgumentsAt (tree.Call name) m
-      (open_token ∷ (placed kind.CloseParenthesis ∷ [])) (tree.Call name [])
-  some_call m name =
-      listed_some terminal.OpenParenthesis open_token refl ArgumentsAt (tree.Call name) m
-      (placed kind.CloseParenthesis
-      ∷ []) [] (empty_items (λ _. Under part.Whole m) terminal.CloseParenthesis kind.CloseParenthesis refl)
+  -- behind a name
 
-  call_answers : (ts : List Token) → is terminal.Name (head ts) ≡ true
-      → Answers ◌≤◌ CallAt Anything level ts (call level read ts)
+  abbrev ArgumentListAt : Text → Rules ℕ Expression
+  ArgumentListAt name = ListedAt terminal.OpenParenthesis ArgumentsAt (tree.Call name)
+
+  abbrev BehindNameAt : Text → Rules ℕ Expression
+  BehindNameAt name = EitherAt (NestedAt (ArgumentListAt name)) (GivesAt (tree.Constant name))
+
+  call_answers : (name : Text) (ts : List Token) → is terminal.OpenParenthesis (head ts) ≡ true
+      → Answers ◌≤◌ (NestedAt (ArgumentListAt name)) Anything level ts (call level read name ts)
   unfolding call
-  call_answers ts here =
-      let rest : Text → Rules ℕ Expression = λ name. ListedAt terminal.OpenParenthesis ArgumentsAt (tree.Call name) in
-      let reader : Text → Reader Expression = λ name. mark terminal.OpenParenthesis >> made
-      (any_items (λ _. read part.Whole) terminal.CloseParenthesis) (tree.Call name) in
-      nested_answers (is terminal.Name) (JoinedAt (OneAt (by_kind name_in)) rest) Anything level ts
-      (one (by_kind name_in) >>= reader) refl here
-      (λ x e. let n = name_token x e in (
-        open_token
-            ∷ (placed kind.CloseParenthesis ∷ []),
-        tree.Call n.0 [],
-        behind (One (by_kind name_in)) (λ name. rest name 2) (x ∷ [])
-            (open_token ∷ (placed kind.CloseParenthesis ∷ [])) n.0 (tree.Call n.0 []) n.1 (some_call 2 n.0),
+  call_answers name ts here =
+      nested_answers (is terminal.OpenParenthesis) (ArgumentListAt name) Anything level ts
+      (mark terminal.OpenParenthesis >> made (any_items (λ _. read part.Whole) terminal.CloseParenthesis)
+      (tree.Call name)) refl here
+      (λ x e. (
+        placed kind.CloseParenthesis ∷ [],
+        tree.Call name [],
+        listed_some terminal.OpenParenthesis x e ArgumentsAt (tree.Call name) 2 (placed kind.CloseParenthesis ∷ []) []
+            (empty_items (λ _. Under part.Whole 2) terminal.CloseParenthesis kind.CloseParenthesis refl),
       ))
-      (λ some. one_then (by_kind name_in) rest Anything level ts reader
-      (λ m above name. (open_token ∷ (placed kind.CloseParenthesis ∷ []), tree.Call name [], some_call m name))
-      (call_reads some))
+      (λ some. call_reads some name ts)
+
+  behind_name_answers : (name : Text) (ts : List Token)
+      → Answers ◌≤◌ (BehindNameAt name) (stop_at 0) level ts (behind_name level read name ts)
+  unfolding behind_name
+  behind_name_answers name ts =
+      either_answers ◌≤◌ level_self (NestedAt (ArgumentListAt name)) (GivesAt (tree.Constant name))
+      (is terminal.OpenParenthesis) (stop_at 0) level ts
+      (nests_starts (λ m. m) (ArgumentListAt name) (is terminal.OpenParenthesis)
+      (joined_starts (MarkAt terminal.OpenParenthesis) (λ _. MadeAt ArgumentsAt (tree.Call name))
+      (is terminal.OpenParenthesis) (mark_starts terminal.OpenParenthesis)))
+      (gives_apart (tree.Constant name) (stop_at 0) (is terminal.OpenParenthesis)
+      (excluded (looser 0) (is terminal.OpenParenthesis) refl))
+      (call level read name ts) (Ok (tree.Constant name, ts))
+      (λ here. ends_itself (NestedAt (ArgumentListAt name)) ts (call level read name ts) (call_answers name ts here))
+      (λ _. gives_answers ◌≤◌ level_self (tree.Constant name) (stop_at 0) level ts)
+
+  -- the same where the name is the first of both
+  to_named : (m : ℕ) (text : List Token) (a : Expression) → JoinedAt (OneAt (by_kind name_in)) BehindNameAt m text a
+      → NamedAt m text a
+  to_named m text a j = go j.other
+    where
+      go : BehindNameAt j.value m j.back a → NamedAt m text a
+      go (inl h) = inl (record {
+        some = h.some;
+        spelled = record {
+          front = j.front;
+          back = j.back;
+          value = j.value;
+          split = j.split;
+          one = j.one;
+          other = h.spelled;
+        };
+      })
+      go (inr g) = inr (record {
+        front = j.front;
+        back = j.back;
+        value = j.value;
+        split = j.split;
+        one = j.one;
+        other = g;
+      })
+
+  from_named : (m : ℕ) (text : List Token) (a : Expression) → NamedAt m text a
+      → JoinedAt (OneAt (by_kind name_in)) BehindNameAt m text a
+  from_named m text a (inl h) = record {
+    front = h.spelled.front;
+    back = h.spelled.back;
+    value = h.spelled.value;
+    split = h.spelled.split;
+    one = h.spelled.one;
+    other = inl (record { some = h.some; spelled = h.spelled.other });
+  }
+  from_named m text a (inr j) = record {
+    front = j.front;
+    back = j.back;
+    value = j.value;
+    split = j.split;
+    one = j.one;
+    other = inr j.other;
+  }
+
+  named_answers : (ts : List Token) → Answers ◌≤◌ NamedAt (stop_at 0) level ts (named level read ts)
+  unfolding named
+  named_answers ts =
+      equal_answers ◌≤◌ level_self (JoinedAt (OneAt (by_kind name_in)) BehindNameAt) NamedAt (stop_at 0) level ts
+      to_named from_named ((one (by_kind name_in) >>= behind_name level read) ts)
+      (one_then (by_kind name_in) BehindNameAt (stop_at 0) level ts (behind_name level read)
+      (λ m above name. ([], tree.Constant name, inr (gives_it (tree.Constant name)))) behind_name_answers)
 
   isset_reads : 0 < level → (ts : List Token)
       → Answers ◌≤◌ (ListedAt terminal.OpenParenthesis PlacesAt tree.Isset) Anything level ts
@@ -465,7 +533,7 @@ module _ (level : ℕ) (read : Part → Reader Expression) (reads : Reads level 
   -- ---- primary expressions, and operands
 
   abbrev FromArray : Rules ℕ Expression
-  FromArray = EitherAt ArrayCallAt CallAt
+  FromArray = EitherAt ArrayCallAt NamedAt
 
   abbrev FromBracket : Rules ℕ Expression
   FromBracket = EitherAt LiteralAt FromArray
@@ -485,34 +553,49 @@ module _ (level : ℕ) (read : Part → Reader Expression) (reads : Reads level 
   abbrev FromStep : Rules ℕ Expression
   FromStep = EitherAt SteppedFirstAt FromNumber
 
-  text_answers : (ts : List Token) → Answers ◌≤◌ TextAt Anything level ts (made (one (by_kind text_in)) tree.Text ts)
+  text_answers : (ts : List Token)
+      → Answers ◌≤◌ TextAt (stop_at 0) level ts (made (one (by_kind text_in)) tree.Text ts)
   text_answers ts =
-      made_answers ◌≤◌ level_self (OneAt (by_kind text_in)) tree.Text Anything Anything level ts (λ a s e. refl)
+      made_answers ◌≤◌ level_self (OneAt (by_kind text_in)) tree.Text Anything (stop_at 0) level ts (λ a s e. refl)
       (one (by_kind text_in) ts) (one_answers ◌≤◌ level_self (by_kind text_in) Anything level ts)
 
-  primary_answers : (ts : List Token) → Answers ◌≤◌ PrimaryAt Anything level ts (primary level read ts)
+  primary_answers : (ts : List Token) → Answers ◌≤◌ PrimaryAt (stop_at 0) level ts (primary level read ts)
   unfolding primary refuse
   primary_answers ts =
-      choice_answers TextAt FromConstant (is terminal.Text) begins_behind_constant Anything level ts refl
+      choice_answers TextAt FromConstant (is terminal.Text) begins_behind_constant (stop_at 0) level ts refl
       text_rule_starts behind_constant_starts _ _ (λ _. text_answers ts)
-      (λ _. choice_answers ConstantAt FromGroup begins_constant begins_behind_group Anything level ts refl
+      (λ _. choice_answers ConstantAt FromGroup begins_constant begins_behind_group (stop_at 0) level ts refl
       (sort_starts constant_in) behind_group_starts _ _ (λ _. one_answers ◌≤◌ level_self
-      (by_terminal constant_in) Anything level ts)
-      (λ _. choice_answers GroupAt FromBracket (is terminal.OpenParenthesis) begins_behind_bracket Anything level ts
-      refl group_starts behind_bracket_starts _ _ (group_answers level read reads ts)
-      (λ _. choice_answers LiteralAt FromArray (is terminal.OpenBracket) begins_behind_array Anything level ts refl
-      literal_starts behind_array_starts _ _ (literal_answers ts)
-      (λ _. choice_answers ArrayCallAt CallAt (is terminal.Array)
-      (is terminal.Name) Anything level ts refl array_call_starts call_starts _ _ (array_call_answers ts)
-      (λ _. guarded_answers ◌≤◌ level_self CallAt (is terminal.Name) Anything level ts call_starts (call level read ts)
-      (call_answers ts))))))
+      (by_terminal constant_in) (stop_at 0) level ts)
+      (λ _. choice_answers GroupAt FromBracket (is terminal.OpenParenthesis) begins_behind_bracket (stop_at 0) level ts
+      refl group_starts behind_bracket_starts _ _
+      (λ here. ends_itself GroupAt ts (group level read ts) (group_answers level read reads ts here))
+      (λ _. choice_answers LiteralAt FromArray (is terminal.OpenBracket) begins_behind_array (stop_at 0) level ts refl
+      literal_starts behind_array_starts _ _
+      (λ here. ends_itself LiteralAt ts (literal level read ts) (literal_answers ts here))
+      (λ _. choice_answers ArrayCallAt NamedAt (is terminal.Array)
+      (is terminal.Name) (stop_at 0) level ts refl array_call_starts named_starts _ _
+      (λ here. ends_itself ArrayCallAt ts (array_call level read ts) (array_call_answers ts here))
+      (λ _. guarded_answers ◌≤◌ level_self NamedAt (is terminal.Name) (stop_at 0) level ts named_starts
+      (named level read ts) (λ _. named_answers ts))))))
+
+  -- what is behind a primary expression goes on with its indices
+  indices_follow : Follows {A = Expression} (stop_at 0) (λ base. MadeAt (ManyAt IndexAt) (indexed base)) (stop_at 2)
+  indices_follow =
+      made_follows (stop_at 0) (λ _. ManyAt IndexAt) indexed (stop_at 2) (stop_at 2) (λ base all s e. e)
+      (λ m base. closed_follows (λ all. MadeAt IndexAt (λ a. all ++ a ∷ [])) (λ all. GivesAt all) (stop_at 0)
+      (stop_at 2)
+      (λ all. starts_in_more (MadeAt IndexAt (λ a. all ++ a ∷ [])) (is terminal.OpenBracket) (looser 0)
+      (mark_passes (looser 0) terminal.OpenBracket refl)
+      (made_starts IndexAt (λ a. all ++ a ∷ []) (is terminal.OpenBracket) index_starts))
+      (gives_follow (λ all. all) (stop_at 0) (stop_at 2) (λ all s e. looser_less 0 2 (omega arith) s e)) m [])
 
   primary_indexed_answers : (ts : List Token)
       → Answers ◌≤◌ PrimaryIndexedAt (stop_at 2) level ts ((primary level read
       >>= (λ base. made (indices level read) (indexed base))) ts)
   primary_indexed_answers ts =
-      joined_answers ◌≤◌ level_self PrimaryAt (λ base. MadeAt (ManyAt IndexAt) (indexed base)) Anything
-      (stop_at 2) level ts (anything_follows (λ base. MadeAt (ManyAt IndexAt) (indexed base)) (stop_at 2))
+      joined_answers ◌≤◌ level_self PrimaryAt (λ base. MadeAt (ManyAt IndexAt) (indexed base)) (stop_at 0)
+      (stop_at 2) level ts indices_follow
       (primary level read ts) (λ base. made (indices level read) (indexed base))
       (λ m above base. ([], indexed base [], give (Many (IndexAt m)) (indexed base) [] [] (many_none IndexAt m)))
       (primary_answers ts)

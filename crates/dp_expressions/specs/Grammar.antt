@@ -221,6 +221,10 @@ module _ (level : ℕ) (inner : Inner) where
     arguments ← AnyItems (λ _. inner.expression) terminal.CloseParenthesis
     Gives (tree.Call name arguments))
 
+  -- a name by itself is a constant
+  abbrev pub ConstantName : Rule Expression
+  ConstantName = Made (Kind name_in) tree.Constant
+
   -- "isset" "(" places ")"
   abbrev pub Isset : Rule Expression
   Isset = Nests level (do
@@ -230,10 +234,11 @@ module _ (level : ℕ) (inner : Inner) where
     Gives (tree.Isset places))
 
   -- prim but var = string | "true" | "false" | "null" | "(" expr ")" | "[" items "]"
-  --     | "array" "(" items ")" | name "(" args ")"
+  --     | "array" "(" items ")" | name "(" args ")" | name
   abbrev pub Primary : Rule Expression
   Primary =
       Made (Kind text_in) tree.Text or Sort constant_in or Group or Literal or ArrayCall or Call
+      or ConstantName
 
   -- post = number | "isset" "(" places ")" | prim *( "[" expr "]" )
   abbrev pub Postfix : Rule Expression

@@ -14,6 +14,7 @@ use crate::pieces::{Below, Entry, PlaceBelow};
 use crate::token_values::{constant, names_constant, prefix, prefix_in, step, step_in};
 use dp_token_rules::{Refusal, Terminal, Tokens, any_items, some_items};
 use dp_tree::{Expression, Item, Order, Place};
+use dp_value::Bytes;
 use std::alloc::Global;
 
 impl<R: Inside> Grammar<R> {
@@ -84,13 +85,12 @@ impl<R: Inside> Grammar<R> {
         Ok(Expression::Array(items))
     }
 
-    /// Reads a call of a function: its name, and its arguments in parentheses.
+    /// Reads the arguments of a call in their parentheses, behind its name.
     #[tactic(auto, unfolding(crate::specs::inner::Readers::call))]
-    fn call(&self, tokens: &mut Tokens<'_>) -> Result<Expression, Refusal>
-        ensures { Reads (within spec.call self.now tokens.old) result tokens.new }
+    fn call(&self, tokens: &mut Tokens<'_>, name: Bytes) -> Result<Expression, Refusal>
+        ensures { Reads (within spec.call self.now name tokens.old) result tokens.new }
     {
         self.enter(tokens)?;
-        let name = tokens.name(self.alloc())?;
         tokens.mark(Terminal::OpenParenthesis)?;
         let argument = Below {
             grammar: self,
@@ -98,6 +98,27 @@ impl<R: Inside> Grammar<R> {
         };
         let arguments = any_items(self.alloc(), tokens, Terminal::CloseParenthesis, &argument)?;
         Ok(Expression::Call(name, arguments))
+    }
+
+    /// The call of this name where a parenthesis comes next, else the constant.
+    #[tactic(auto, unfolding(crate::specs::inner::Readers::behind_name))]
+    fn behind_name(&self, tokens: &mut Tokens<'_>, name: Bytes) -> Result<Expression, Refusal>
+        ensures { Reads (within spec.behind_name self.now name tokens.old) result tokens.new }
+    {
+        if tokens.sees(Terminal::OpenParenthesis) {
+            self.call(tokens, name)
+        } else {
+            Ok(Expression::Constant(name))
+        }
+    }
+
+    /// Reads a name, and the arguments behind it if it is that of a call.
+    #[tactic(auto, unfolding(crate::specs::inner::Readers::named))]
+    fn named(&self, tokens: &mut Tokens<'_>) -> Result<Expression, Refusal>
+        ensures { Reads (within spec.named self.now tokens.old) result tokens.new }
+    {
+        let name = tokens.name(self.alloc())?;
+        self.behind_name(tokens, name)
     }
 
     /// Reads an `isset` of one place or more.
@@ -134,7 +155,7 @@ impl<R: Inside> Grammar<R> {
             return self.array_call(tokens);
         }
         if tokens.sees(Terminal::Name) {
-            return self.call(tokens);
+            return self.named(tokens);
         }
         Err(tokens.refuse())
     }

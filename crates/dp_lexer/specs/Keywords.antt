@@ -43,7 +43,7 @@ name_or (Some k) name = k
 abbrev pub word_of : List ℕ → TokenKind
 word_of name = name_or (keyword_of name) name
 
--- the words that PHP keeps for itself and the grammar does not use
+-- the words that PHP keeps for itself and that are no tokens of their own
 abbrev pub other_words : List (List ℕ)
 other_words =
     codes "abstract" ∷ codes "and" ∷ codes "as" ∷ codes "callable" ∷ codes "case" ∷ codes "catch"

@@ -2,6 +2,7 @@ pub mod Bytes
 pub mod Quotes
 pub mod Operators
 pub mod Keywords
+pub mod Names
 pub mod Chain
 pub mod Pieces
 pub mod Tokens

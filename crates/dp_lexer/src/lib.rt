@@ -22,7 +22,7 @@ pub use errors::LexError;
 pub use fault::Fault;
 pub use laws::tokens_are_exact;
 pub use lexer::{lex, lex_expression, line_feeds};
-pub use names::NAME_LIMIT;
+pub use names::{NAME_LIMIT, is_given};
 pub use reserved::is_reserved;
 pub use spelling::Spelling;
 pub use token::{Token, TokenKind};

@@ -1,12 +1,16 @@
 //! Names and variables.
 
 ghost use Rattle.std.specs.Prelude.{◌≡◌, ◌≤◌, length};
+ghost use Rattle.std.specs.List.{list_all};
+ghost use Rattle.dp_lexer.specs.Bytes as sorts;
+ghost use Rattle.dp_lexer.specs.Names as tests;
 ghost use Rattle.dp_lexer.specs.inner.Lexer as spec;
 ghost use Rattle.dp_lexer.specs.inner.Lexer.{Finds};
 
 use crate::class::{is_part, is_start};
 use crate::fault::{Fault, Wrong};
 use crate::keywords::word_of;
+use crate::reserved::is_reserved;
 use crate::spelling::Spelling;
 use crate::token::TokenKind;
 use std::alloc::Global;
@@ -24,6 +28,31 @@ fn name_len(z: &[u8]) -> usize
         n += 1;
     }
     n
+}
+
+/// Whether a name may go on with each of these bytes.
+fn all_parts(bytes: &[u8]) -> bool
+    ensures { result ≡ list_all sorts.is_part bytes.now }
+{
+    bytes.iter().all(|b| is_part(*b))
+}
+
+/// Whether these bytes are a name of at most 255 bytes.
+fn is_name(bytes: &[u8]) -> bool
+    ensures { result ≡ tests.is_name bytes.now }
+{
+    match bytes {
+        [] => false,
+        [first, rest @ ..] => { is_start(*first) && all_parts(rest) && bytes.len() <= NAME_LIMIT }
+    }
+}
+
+/// Whether these bytes are a name that a program may give to a function or a constant: a name of a token, no reserved
+/// word, and none of `true`, `false` and `null`. Takes no memory.
+pub fn is_given(bytes: &[u8]) -> bool
+    ensures { result ≡ tests.is_given bytes.now }
+{
+    is_name(bytes) && !is_reserved(bytes)
 }
 
 /// The name or the keyword that stands at the front.

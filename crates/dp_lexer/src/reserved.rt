@@ -7,7 +7,7 @@ ghost use Rattle.dp_lexer.specs.Keywords as words;
 
 use crate::keywords::{is_keyword, is_word};
 
-/// The reserved words that are no keywords of the grammar.
+/// The reserved words that are no tokens of their own.
 const OTHER_WORDS: [&str; 68] = [
     "abstract",
     "and",

@@ -16,3 +16,4 @@ pub mod Spelled
 pub mod Trees
 pub mod Turns
 pub mod SearchLaws
+pub mod OutputLaws

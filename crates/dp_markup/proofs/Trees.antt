@@ -1,5 +1,5 @@
 -- The canonical text of an element, by its name, its attributes and its nodes.
-use Rattle.std.proofs.Common.{◌≡◌, ℕ, List, [], ◌∷◌, ◌++◌, refl, ap, ◌∙◌, append_assoc, map}
+use Rattle.std.proofs.Common.{◌≡◌, List, [], ◌∷◌, ◌++◌, refl, ap, ◌∙◌, map}
 use Rattle.std.specs.List.{flat_map}
 use Rattle.dp_markup.specs.declared.tree.Element.{Element}
 use Rattle.dp_markup.specs.declared.tree.Node.{Node}
@@ -14,9 +14,3 @@ pub written_is : (e : Element) → written e ≡ element_text e.name e.attribute
 written_is e =
     fold_out-Element Text Text node_layer element_layer e
     ∙ ap (λ content. element_text e.name e.attributes content) (joined_texts e.children)
-
--- the parts of an element's text, in the order in which they are written
-pub in_order : (out first name attributes close content end last whole : List ℕ)
-    → whole ≡ (((((((out ++ first) ++ name) ++ attributes) ++ close) ++ content) ++ end) ++ name) ++ last
-    → whole ≡ out ++ (first ++ name ++ attributes ++ close ++ content ++ end ++ name ++ last)
-in_order out first name attributes close content end last whole e = e ∙ simp append_assoc

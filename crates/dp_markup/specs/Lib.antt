@@ -11,3 +11,4 @@ pub mod Rules
 pub mod Texts
 pub mod Verdict
 pub mod inner
+pub mod Outputs

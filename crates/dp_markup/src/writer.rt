@@ -1,133 +1,100 @@
 //! Writing elements in one form.
 
-ghost use Rattle.std.specs.Prelude.{◌≡◌, ◌++◌, ◌<◌, IfOk, OnOk};
+ghost use Rattle.std.specs.Prelude.{◌≡◌, ◌++◌, IfOk, OnOk, codes};
 ghost use Rattle.std.specs.List.{flat_map};
-ghost use Rattle.dp_markup.specs.Escapes.{decimal, escaped, escaped_all, plain_or_number};
-ghost use Rattle.dp_markup.specs.Texts.{attribute_text, node_text, nodes_text, written};
+ghost use Rattle.dp_markup.specs.Outputs.{behind};
+ghost use Rattle.dp_markup.specs.Texts.{attribute_text, element_text, node_text, nodes_text, written};
 
 use crate::Memory;
+use crate::outputs::{Output, TextOutput, put_attribute, put_escaped};
 use crate::tree::{Element, Node};
 use dp_value::Bytes;
 use std::alloc::Global;
 
 /// The canonical text of an element, without a declaration: one start tag and one end tag for each
 /// element, values in double quotes, and each byte that is no plain one as a reference.
+#[tactic(auto, using(crate::proofs::Trees::written_is))]
 pub fn write(alloc: Global, e: &Element) -> Result<Bytes, Memory>
     ensures { IfOk result (λ text. text ≡ written e.now) }
 {
-    let mut out = Vec::new(alloc);
-    write_element(&mut out, e)?;
-    Ok(Bytes::of(out))
+    let mut out = TextOutput {
+        alloc,
+        text: Vec::new(alloc),
+    };
+    put_element(&mut out, e)?;
+    Ok(Bytes::of(out.text))
 }
 
 /// Puts the canonical text of an element, with all that stands in it.
 #[cycle(writing)]
-fn write_element(out: &mut Vec<u8>, element: &Element) -> Result<(), Memory>
-    ensures { OnOk result (out.new.items ≡ out.old.items ++ written element.now) }
+fn put_element<O: Output>(out: &mut O, element: &Element) -> Result<(), O::Error>
+    ensures { OnOk result (O.seen out.new ≡ behind (O.seen out.old)
+        (element_text element.now.name element.now.attributes (nodes_text element.now.children))) }
 {
-    out.push(b'<')?;
-    out.extend_from_slice(element.name.as_slice())?;
-    write_attributes(out, element.attributes.as_slice())?;
-    out.push(b'>')?;
-    write_nodes(out, element.children.as_slice())?;
-    out.extend_from_slice(b"</")?;
-    out.extend_from_slice(element.name.as_slice())?;
-    out.push(b'>')?;
-    Ok(())
+    put_start(out, element.name.as_slice(), element.attributes.as_slice())?;
+    put_nodes(out, element.children.as_slice())?;
+    put_close(out, element.name.as_slice())
 }
 
 /// Puts the canonical text of nodes, in their order.
 #[cycle(writing)]
-fn write_nodes(out: &mut Vec<u8>, nodes: &[Node]) -> Result<(), Memory>
-    ensures { OnOk result (out.new.items ≡ out.old.items ++ nodes_text nodes.now) }
+fn put_nodes<O: Output>(out: &mut O, nodes: &[Node]) -> Result<(), O::Error>
+    ensures { OnOk result (O.seen out.new ≡ behind (O.seen out.old) (nodes_text nodes.now)) }
 {
     for node in nodes {
-        write_node(out, node)?;
+        put_node(out, node)?;
     }
     Ok(())
 }
 
 /// Puts the canonical text of a node: a text with references, or a child.
 #[cycle(writing)]
-fn write_node(out: &mut Vec<u8>, node: &Node) -> Result<(), Memory>
-    ensures { OnOk result (out.new.items ≡ out.old.items ++ node_text node.now) }
+fn put_node<O: Output>(out: &mut O, node: &Node) -> Result<(), O::Error>
+    ensures { OnOk result (O.seen out.new ≡ behind (O.seen out.old) (node_text node.now)) }
 {
     match node {
-        Node::Text(text) => write_escaped(out, text.as_slice()),
-        Node::Child(child) => write_element(out, child),
+        Node::Text(text) => put_escaped(out, text.as_slice()),
+        Node::Child(child) => put_element(out, child),
     }
+}
+
+/// Puts a start tag.
+fn put_start<O: Output>(
+    out: &mut O,
+    name: &[u8],
+    attributes: &[(Bytes, Bytes)],
+) -> Result<(), O::Error>
+    ensures { OnOk result (O.seen out.new ≡ behind (O.seen out.old)
+        (codes "<" ++ name.now ++ flat_map attribute_text attributes.now ++ codes ">")) }
+{
+    put_open(out, name)?;
+    put_attributes(out, attributes)?;
+    out.put(b">")
 }
 
 /// Puts the canonical text of attributes, in their order.
-fn write_attributes(out: &mut Vec<u8>, attributes: &[(Bytes, Bytes)]) -> Result<(), Memory>
-    ensures { OnOk result (out.new.items ≡ out.old.items ++ flat_map attribute_text attributes.now) }
+pub fn put_attributes<O: Output>(out: &mut O, attributes: &[(Bytes, Bytes)]) -> Result<(), O::Error>
+    ensures { OnOk result (O.seen out.new ≡ behind (O.seen out.old) (flat_map attribute_text attributes.now)) }
 {
     for attribute in attributes {
-        write_attribute(out, attribute.0.as_slice(), attribute.1.as_slice())?;
+        put_attribute(out, attribute.0.as_slice(), attribute.1.as_slice())?;
     }
     Ok(())
 }
 
-/// Puts ` name="value"`, with references in the value.
-fn write_attribute(out: &mut Vec<u8>, name: &[u8], value: &[u8]) -> Result<(), Memory>
-    ensures { OnOk result (out.new.items ≡ out.old.items ++ attribute_text (name.now, value.now)) }
+/// Puts how a start tag begins: `<` and the name.
+pub fn put_open<O: Output>(out: &mut O, name: &[u8]) -> Result<(), O::Error>
+    ensures { OnOk result (O.seen out.new ≡ behind (O.seen out.old) (codes "<" ++ name.now)) }
 {
-    out.push(b' ')?;
-    out.extend_from_slice(name)?;
-    out.extend_from_slice(b"=\"")?;
-    write_escaped(out, value)?;
-    out.push(b'"')?;
-    Ok(())
+    out.put(b"<")?;
+    out.put(name)
 }
 
-/// Puts bytes, each by itself or as a reference.
-fn write_escaped(out: &mut Vec<u8>, bytes: &[u8]) -> Result<(), Memory>
-    ensures { OnOk result (out.new.items ≡ out.old.items ++ escaped_all bytes.now) }
+/// Puts an end tag.
+pub fn put_close<O: Output>(out: &mut O, name: &[u8]) -> Result<(), O::Error>
+    ensures { OnOk result (O.seen out.new ≡ behind (O.seen out.old) (codes "</" ++ name.now ++ codes ">")) }
 {
-    for byte in bytes {
-        write_byte(out, *byte)?;
-    }
-    Ok(())
-}
-
-/// Puts a byte by itself, or as a reference where it is no plain one.
-fn write_byte(out: &mut Vec<u8>, byte: u8) -> Result<(), Memory>
-    ensures { OnOk result (out.new.items ≡ out.old.items ++ escaped byte) }
-{
-    match byte {
-        b'&' => out.extend_from_slice(b"&amp;"),
-        b'<' => out.extend_from_slice(b"&lt;"),
-        b'>' => out.extend_from_slice(b"&gt;"),
-        b'"' => out.extend_from_slice(b"&quot;"),
-        b'\'' => out.extend_from_slice(b"&#39;"),
-        _ => write_plain_or_number(out, byte),
-    }
-}
-
-/// Puts a byte from 0x20 to 0x7e by itself, and any other as a reference by number.
-fn write_plain_or_number(out: &mut Vec<u8>, byte: u8) -> Result<(), Memory>
-    ensures { OnOk result (out.new.items ≡ out.old.items ++ plain_or_number byte) }
-{
-    if byte < 0x20 || byte > 0x7e {
-        out.extend_from_slice(b"&#")?;
-        write_decimal(out, byte)?;
-        out.push(b';')?;
-    } else {
-        out.push(byte)?;
-    }
-    Ok(())
-}
-
-/// Puts a number of at most 255 in decimal.
-fn write_decimal(out: &mut Vec<u8>, number: u8) -> Result<(), Memory>
-    ensures { OnOk result (out.new.items ≡ out.old.items ++ decimal number) }
-{
-    if number >= 100 {
-        out.push(b'0' + number / 100)?;
-    }
-    if number >= 10 {
-        out.push(b'0' + number / 10 % 10)?;
-    }
-    out.push(b'0' + number % 10)?;
-    Ok(())
+    out.put(b"</")?;
+    out.put(name)?;
+    out.put(b">")
 }

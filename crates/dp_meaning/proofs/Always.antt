@@ -1,9 +1,8 @@
 -- What is kept by each step of a program is true at each moment of its run and at its end, and an exit has one of 200
 -- statuses.
-use Rattle.std.proofs.Common.{◌≡◌, ℕ, ◌+◌, ◌<◌, ◌≤◌, Bool, true, false, List, [], ◌∷◌, length, map, Option, Result, Ok, Err, refl}
+use Rattle.std.proofs.Common.{◌≡◌, ℕ, ◌+◌, ◌<◌, ◌≤◌, Bool, true, false, List, [], ◌∷◌, length, map, Option, Result, Ok, Err, refl, sym, subst}
 use Rattle.std.specs.Prelude.{if◌then◌else◌}
 use Rattle.dp_tree.specs.declared.bundle.Bundle.{Bundle}
-use Rattle.dp_value.specs.declared.errors.CallError.{CallError}
 use Rattle.dp_value.specs.declared.errors.ValueError.{ValueError}
 use Rattle.dp_value.specs.declared.errors.WriteError.{WriteError}
 use Rattle.dp_value.specs.declared.key.Key.{Key}
@@ -13,13 +12,15 @@ use Rattle.dp_state.specs.declared.moments.FatalKind.{FatalKind}
 use Rattle.dp_state.specs.declared.moments.Outcome.{Outcome}
 use Rattle.dp_state.specs.declared.moments.Outcome.TheVariants as way
 use Rattle.dp_state.specs.declared.state.State.{State}
+use Rattle.dp_state.specs.Constants.{with_constant}
 use Rattle.dp_state.specs.Functions.{called, included}
 use Rattle.dp_state.specs.Places.{assigned, unset, with_global}
 use Rattle.dp_state.specs.States.{printed, left}
 use Rattle.dp_tree.specs.declared.tree.Function.{Function}
 use Rattle.dp_actions.specs.Run.{Run, Done, Over, At, and_then, taken}
 use Rattle.dp_actions.specs.Setting.{Setting, Part}
-use Rattle.dp_actions.specs.Values.{value_run, builtin_run, write_run}
+use Rattle.dp_actions.specs.Values.{value_run, write_run}
+use Rattle.dp_meaning.proofs.NativeRuns.{IsNative, WithConstant, WithFault, WithValue}
 
 -- a fact of each element
 abbrev pub Each : {X : Type 0} → (X → Type 0) → List X → Type 0
@@ -57,6 +58,7 @@ module _ {D : Type 0} (P : D → ℕ → State → Type 0) where
     pub unsets : (d : D) (n : ℕ) (name : List ℕ) (keys : List (Option Key)) (s t : State) → unset name keys s ≡ Ok t
         → P d n s → P d n t
     pub binds : (d : D) (n : ℕ) (name : List ℕ) (s : State) → P d n s → P d n (with_global name s)
+    pub defines : (d : D) (n : ℕ) (name : List ℕ) (v : Value) (s : State) → P d n s → P d n (with_constant name v s)
     pub prints : (d : D) (n : ℕ) (piece : List ℕ) (s t : State) → printed piece s ≡ Ok t → P d n s → P d n t
     pub calls : (d : D) (n file : ℕ) (f : Function) (values : List Value) (s t : State)
         → file < length bundle.files → called file f values s ≡ Ok t → P d n s → P (down d) n t
@@ -97,13 +99,17 @@ module _ {D : Type 0} (P : D → ℕ → State → Type 0) where
   Keeps-value (Ok v) d n s p = p
   Keeps-value (Err e) d n s p = (d, p, tt)
 
-  pub Keeps-builtin : (r : Result Data CallError) → Keeps (builtin_run r)
-  Keeps-builtin (Ok v) d n s p = p
-  Keeps-builtin (Err e) d n s p = (d, p, tt)
-
   pub Keeps-write : (r : Result Data WriteError) → Keeps (write_run r)
   Keeps-write (Ok v) d n s p = p
   Keeps-write (Err e) d n s p = (d, p, tt)
+
+  -- a built-in function
+  pub Always-native : (bundle : Bundle) → IsKept bundle → (r : Run Value) (d : D) (n : ℕ) (s : State) → IsNative s r
+      → P d n s → Always d n r
+  Always-native bundle kept r d n s (WithValue v e) p = subst (Always d n) (sym e) p
+  Always-native bundle kept r d n s (WithConstant name v given e) p =
+      subst (Always d n) (sym e) (kept.defines d n name v s p)
+  Always-native bundle kept r d n s (WithFault kind e) p = subst (Always d n) (sym e) (d, p, tt)
 
   -- calls and included files keep it too
   pub record IsKeptBy (bundle : Bundle) (setting : Setting) : Type 0 where

@@ -1,5 +1,5 @@
 -- What is kept by each step of a program is kept by calls, once it is by what is called.
-use Rattle.std.proofs.Common.{◌≡◌, ℕ, zero, suc, ◌<◌, Bool, true, false, List, [], ◌∷◌, length, map, Option, Some, None, refl, subst, arith, slice_get}
+use Rattle.std.proofs.Common.{◌≡◌, ℕ, zero, suc, ◌<◌, Bool, true, false, List, [], ◌∷◌, length, Option, Some, None, refl, subst, arith, slice_get}
 use Rattle.std.specs.Prelude.{nat_lt, cond, position}
 use Rattle.std.specs.List.{position_or_len}
 use Rattle.std.proofs.lemmas.Bool.{ltb-true}
@@ -8,10 +8,9 @@ use Rattle.dp_tree.specs.declared.bundle.Bundle.{Bundle}
 use Rattle.dp_tree.specs.declared.bundle.BundleFile.{BundleFile}
 use Rattle.dp_tree.specs.declared.bundle.FunctionRef.{FunctionRef}
 use Rattle.dp_tree.specs.Files.{file_named}
-use Rattle.dp_tree.specs.declared.operators.Builtin.{Builtin}
+use Rattle.dp_tree.specs.declared.operators.Native.{Native}
 use Rattle.dp_value.specs.declared.value.Value.{Value}
 use Rattle.dp_value.specs.Value.{data_of}
-use Rattle.dp_operations.specs.Builtins.{builtin_of}
 use Rattle.dp_operations.specs.Text.{text_of}
 use Rattle.dp_state.specs.declared.state.State.{State}
 use Rattle.dp_state.specs.Functions.{declared_function}
@@ -21,7 +20,8 @@ use Rattle.dp_tree.specs.declared.tree.Inclusion.TheVariants.{Include, Require}
 use Rattle.dp_tree.specs.Builtins.{builtin_of as builtin_named}
 use Rattle.dp_actions.specs.Calls.{Callee, BuiltIn, Declared, callee, declared_callee, callee_run, call_run, inclusion_run, include_run}
 use Rattle.dp_actions.specs.Setting.{Setting, Part}
-use Rattle.dp_meaning.proofs.Always.{IsKeptBy, Keeps, KeepsPart, Keeps-and_then, Keeps-builtin}
+use Rattle.dp_meaning.proofs.Always.{Always-native, IsKept, IsKeptBy, Keeps, KeepsPart, Keeps-and_then}
+use Rattle.dp_meaning.proofs.NativeRuns.{native-is}
 
 -- ---- files that are found stand in the bundle
 
@@ -65,17 +65,17 @@ within-declared bundle reference = go (slice_get bundle.files reference.file) re
 pub within-callee : (bundle : Bundle) (name : List ℕ) (s : State) → AreWithin bundle (callee bundle name s)
 within-callee bundle name s = go (builtin_named name) (declared_function bundle name s.declared)
   where
-    go : (o : Option Builtin) (r : Option FunctionRef)
+    go : (o : Option Native) (r : Option FunctionRef)
         → AreWithin bundle (option_map_or (λ b. Some (BuiltIn b)) o (option_map_or (declared_callee bundle) r None))
     go None None = tt
     go None (Some reference) = within-declared bundle reference
     go (Some b) r = tt
 
-module _ {D : Type 0} (P : D → ℕ → State → Type 0) (bundle : Bundle) where
+module _ {D : Type 0} (P : D → ℕ → State → Type 0) (bundle : Bundle) (kept : IsKept P bundle) where
   Keeps-callee : (c : Callee) (values : List Value) (setting : Setting) → IsKeptBy P bundle setting → IsWithin bundle c
       → Keeps P (callee_run c values setting)
   Keeps-callee (BuiltIn b) values setting good within d n s p =
-      Keeps-builtin P (builtin_of b (map data_of values)) d n s p
+      Always-native P bundle kept _ d n s (native-is b values s) p
   Keeps-callee (Declared file f) values setting good within d n s p = good.call file f values within d n s p
 
   Keeps-call : (o : Option Callee) (arguments : Part (List Value)) → KeepsPart P bundle arguments → (setting : Setting)

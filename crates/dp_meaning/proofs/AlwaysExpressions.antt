@@ -11,6 +11,7 @@ use Rattle.dp_value.specs.Value.{data_of}
 use Rattle.dp_operations.specs.Binary.{binary_of}
 use Rattle.dp_operations.specs.Indices.{indexed, looked_up}
 use Rattle.dp_operations.specs.Unary.{unary_of}
+use Rattle.dp_state.specs.Constants.{constant}
 use Rattle.dp_state.specs.declared.state.State.{State}
 use Rattle.dp_state.specs.Places.{keys_of_indices}
 use Rattle.dp_tree.specs.declared.tree.Expression.{Expression, ind-Expression, map-Expression, roll-Expression}
@@ -24,12 +25,14 @@ use Rattle.dp_tree.specs.declared.tree.Place.{Place, map-Place, roll-Place, ind-
 use Rattle.dp_actions.specs.Expressions.{ExpressionRun, ItemRun, LinkRun, values_run, indices_run, links_run, items_run, operator_run, item_run, choice, place_layer, item_layer, link_layer, expression_layer, expression_run, place_run, evaluations}
 use Rattle.dp_actions.specs.Expressions.{item_run_of, link_run}
 use Rattle.dp_actions.specs.Calls.{include_run}
+use Rattle.dp_actions.specs.Constants.{constant_run}
 use Rattle.dp_actions.specs.Places.{PlaceRun}
 use Rattle.dp_actions.specs.Run.{Done, and_then}
 use Rattle.dp_actions.specs.Setting.{Part}
 use Rattle.dp_actions.specs.Values.{value_run, holds, is_missing}
-use Rattle.dp_meaning.proofs.Always.{Each, each-images, IsKept, KeepsPart, Keeps-and_then, Keeps-value, Keeps-write, Always-if}
+use Rattle.dp_meaning.proofs.Always.{Each, each-images, IsKept, KeepsPart, Keeps-and_then, Keeps-value, Keeps-write, Always-if, Always-native}
 use Rattle.dp_meaning.proofs.AlwaysCalls.{Keeps-named, Keeps-include}
+use Rattle.dp_meaning.proofs.NativeRuns.{read-is}
 use Rattle.dp_meaning.proofs.AlwaysPlaces.{KeepsPlace, Keeps-assignment, Keeps-coalescing, Keeps-compound, Keeps-isset, Keeps-step}
 
 module _ {D : Type 0} (P : D → ℕ → State → Type 0) (bundle : Bundle) (kept : IsKept P bundle) where
@@ -159,11 +162,14 @@ module _ {D : Type 0} (P : D → ℕ → State → Type 0) (bundle : Bundle) (ke
   keeps-layer (Expression-F.Number m) = (λ setting good d n s p. p, λ setting good d n s p. p)
   keeps-layer (Expression-F.Text bytes) = (λ setting good d n s p. p, λ setting good d n s p. p)
   keeps-layer (Expression-F.Variable name) = (λ setting good d n s p. p, λ setting good d n s p. p)
+  keeps-layer (Expression-F.Constant name) =
+      let k : KeepsPart P bundle (λ setting s. constant_run name s) =
+      λ setting good d n s p. Always-native P bundle kept _ d n s (read-is (constant name s) s) p in (k, k)
   keeps-layer (Expression-F.Array items) =
       let k = Keeps-items _ (each-images item_run_of KeepsFrom items) (value.Array empty) in (k, k)
   keeps-layer (Expression-F.Call name arguments) =
-      let k = Keeps-named P bundle name _ (Keeps-values _ (each-images expression_run KeepsExpression arguments)) in
-      (k, k)
+      let k = Keeps-named P bundle kept name _ (Keeps-values _
+      (each-images expression_run KeepsExpression arguments)) in (k, k)
   keeps-layer (Expression-F.Isset places) =
       let k = Keeps-isset P bundle kept _ (each-images place_run (KeepsPlace P bundle kept) places) in (k, k)
   keeps-layer (Expression-F.Index base indices) =
@@ -199,7 +205,7 @@ module _ {D : Type 0} (P : D → ℕ → State → Type 0) (bundle : Bundle) (ke
       let k : KeepsPart P bundle (λ setting s. and_then ((expression_run e.0).value setting s)
       (λ v t. include_run how v setting t)) =
       λ setting good d n s p. Keeps-and_then P d n _ _ (e.1.0 setting good d n s p)
-      (λ v. Keeps-include P bundle how v setting good) in (k, k)
+      (λ v. Keeps-include P bundle kept how v setting good) in (k, k)
   keeps-layer (Expression-F.Assign place right) =
       let k = Keeps-assignment P bundle kept (place_run place.0) place.1
       (expression_run right.0).value right.1.0 false in (k, k)

@@ -8,9 +8,11 @@ use Rattle.dp_value.specs.declared.value.Value.TheVariants as value
 use Rattle.dp_value.specs.Value.{data_of}
 use Rattle.dp_operations.specs.Text.{text_of}
 use Rattle.dp_state.specs.declared.state.State.{State}
+use Rattle.dp_state.specs.Constants.{with_constant}
 use Rattle.dp_state.specs.Places.{with_global}
 use Rattle.dp_state.specs.States.{printed}
 use Rattle.dp_tree.specs.declared.tree.Arm.{Arm, map-Arm, roll-Arm}
+use Rattle.dp_tree.specs.declared.tree.Definition.{Definition}
 use Rattle.dp_tree.specs.declared.tree.Expression.{Expression}
 use Rattle.dp_tree.specs.declared.tree.Place.{Place}
 use Rattle.dp_tree.specs.declared.tree.Statement.{Statement, map-Statement, roll-Statement, ind-Statement}
@@ -23,7 +25,7 @@ use Rattle.dp_actions.specs.Expressions.{expression_run, evaluation, place_run}
 use Rattle.dp_actions.specs.Loops.{entries}
 use Rattle.dp_actions.specs.Run.{Run}
 use Rattle.dp_actions.specs.Setting.{Part}
-use Rattle.dp_actions.specs.Statements.{KindRun, ArmRun, go_on, sequence, echoes, arms_run, return_run, end_run, kind_layer, arm_layer, statement_layer, statement_run, body_run}
+use Rattle.dp_actions.specs.Statements.{KindRun, ArmRun, go_on, sequence, echoes, constants_run, arms_run, return_run, end_run, kind_layer, arm_layer, statement_layer, statement_run, body_run}
 use Rattle.dp_actions.specs.Effects.{with_globals, status_of, exit_with, exit_run}
 use Rattle.dp_actions.specs.inner.StatementParts.{kind_run}
 use Rattle.dp_actions.specs.Statements.{arm_run}
@@ -57,6 +59,12 @@ module _ {D : Type 0} (P : D → ℕ → State → Type 0) (bundle : Bundle) (ke
       Keeps-and_then P d n _ _ ((Keeps-expression P bundle kept e).0 setting good d n s p) (λ v d n t p.
       Keeps-and_then P d n _ _ (Always-taken P _ d d n t p (λ u is. kept.prints d n (text_of (data_of v)) t u is p))
       (λ _. Keeps-echoes es setting good))
+
+  Keeps-constants : (all : List Definition) → KeepsPart P bundle (constants_run all)
+  Keeps-constants [] setting good d n s p = p
+  Keeps-constants (first ∷ rest) setting good d n s p =
+      Keeps-and_then P d n _ _ ((Keeps-expression P bundle kept first.value).0 setting good d n s p) (λ v d n t p.
+      Keeps-constants rest setting good d n (with_constant first.name v t) (kept.defines d n first.name v t p))
 
   Keeps-otherwise : (o : Option (Part Signal)) → ((part : Part Signal) → o ≡ Some part → KeepsPart P bundle part)
       → KeepsPart P bundle (arms_run [] o)
@@ -196,6 +204,8 @@ module _ {D : Type 0} (P : D → ℕ → State → Type 0) (bundle : Bundle) (ke
         (all-places places) setting good d (n + 1) t p)
         (λ _ d n u p. p),
   )
+  keeps-layer (StatementKind-F.Constants all) line =
+      λ setting good d n s p. (d, p, λ t p. Keeps-constants all setting good d (n + 1) t p)
   keeps-layer (StatementKind-F.Exit value) line =
       λ setting good d n s p. (d, p, λ t p. keeps-end value setting good d (n + 1) t p)
 

@@ -22,6 +22,7 @@ kept bundle = record {
   assigns = λ d n level name keys push v s t e p. tt;
   unsets = λ d n name keys s t e p. tt;
   binds = λ d n name s p. tt;
+  defines = λ d n name v s p. tt;
   prints = λ d n piece s t e p. tt;
   calls = λ d n file f values s t within e p. tt;
   includes = λ d n file s t within e p. tt;

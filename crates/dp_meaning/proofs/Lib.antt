@@ -1,5 +1,6 @@
 pub mod Drives
 pub mod Always
+pub mod NativeRuns
 pub mod AlwaysPlaces
 pub mod AlwaysCalls
 pub mod AlwaysExpressions

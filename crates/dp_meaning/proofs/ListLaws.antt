@@ -1,10 +1,13 @@
 -- Lists of parts, one element after another.
 use Rattle.std.proofs.Common.{◌≡◌, Bool, ℕ, zero, suc, ◌+◌, ◌<◌, List, [], ◌∷◌, ◌++◌, length, map, get_or, drop, drop-cons, add-one, Some, slice_get, arith, Result, Ok, Err, refl, sym, ap, ◌∙◌, subst, append_assoc, append-nil}
+use Rattle.dp_state.specs.Constants.{with_constant}
 use Rattle.dp_state.specs.declared.state.State.{State}
+use Rattle.dp_tree.specs.declared.tree.Definition.{Definition}
 use Rattle.dp_tree.specs.declared.tree.Expression.{Expression}
 use Rattle.dp_tree.specs.declared.tree.Place.{Place}
 use Rattle.dp_value.specs.declared.value.Value.{Value}
 use Rattle.dp_actions.specs.declared.halt.Halt.{Halt}
+use Rattle.dp_actions.specs.declared.signal.Signal.{Signal}
 use Rattle.dp_meaning.specs.declared.evaluator.Evaluator.{Evaluator}
 use Rattle.dp_meaning.specs.inner.Drive.{Rules, Evaluates}
 use Rattle.dp_meaning.specs.inner.Evaluation.{goes_by}
@@ -12,14 +15,15 @@ use Rattle.dp_actions.specs.Expressions.{evaluation, evaluations, place_run}
 use Rattle.dp_actions.specs.Places.{isset_run, missing_at, missing_run}
 use Rattle.dp_actions.specs.Run.{Run, Done, and_then}
 use Rattle.dp_actions.specs.Setting.{Setting}
+use Rattle.dp_actions.specs.Statements.{constants_run}
 use Rattle.dp_meaning.proofs.Drives.{gives, breaks_off, goes_on, joined_off, joined_on}
 use Rattle.dp_actions.proofs.MissingPlaces.{isset-on, isset-place}
 use Rattle.dp_actions.proofs.Runs.{and_then-assoc, and_then-Done}
 
 -- the elements from one on
-pub front : {X : Type 0} (xs : List X) (i : ℕ) (x : X) → i < length xs → x ≡ get_or xs i x
+pub front : {X : Type 0} (xs : List X) {i : ℕ} {x : X} → i < length xs → x ≡ get_or xs i x
     → drop i xs ≡ x ∷ drop (i + 1) xs
-front xs i x within is = rw (add-one, drop-cons xs i x) (ap (λ y. y ∷ drop (suc i) xs) (sym is))
+front {X} xs {i} {x} within is = rw (add-one, drop-cons xs i x) (ap (λ y. y ∷ drop (suc i) xs) (sym is))
 
 -- the element at a position, and the elements from there on
 pub front-at : {X : Type 0} (xs : List X) (i : ℕ) → i < length xs
@@ -65,6 +69,33 @@ module _ (rules : Rules) (setting : Setting) where
         subst (λ r. Evaluates rules r x u) (sym (and_then-assoc (evaluation e setting s) _
         (λ values w. Done (done ++ values) w)))
         (goes_on _ ev (subst (λ r. Evaluates rules r x u) (sym (joined v t)) more))
+
+-- ---- `const`, by what its first constant comes to
+
+abbrev define-first : Definition → Value → State → Run Unit
+define-first first v s = Done tt (with_constant first.name v s)
+
+abbrev definitions-left : List Definition → Setting → Unit {0} → State → Run Signal
+definitions-left rest setting _ u = constants_run rest setting u
+
+module _ {rules : Rules} (all : List Definition) {i : ℕ} {first : Definition} (within : i < length all)
+    (is : first ≡ get_or all i first) (setting : Setting) (s : State) where
+  pub constant_off : {h : Halt} {t : State}
+      → Evaluates rules (and_then (evaluation first.value setting s) (define-first first)) (Err h) t
+      → Evaluates rules (constants_run (drop i all) setting s) (Err h) t
+  unfolding and_then
+  constant_off e =
+      rw (front all within is) (joined_off (evaluation first.value setting s) (define-first first)
+      (definitions-left (drop (i + 1) all) setting) e)
+
+  pub constant_on : {t u : State} {x : Result Signal Halt}
+      → Evaluates rules (and_then (evaluation first.value setting s) (define-first first)) (Ok tt) t
+      → Evaluates rules (constants_run (drop (i + 1) all) setting t) x u
+      → Evaluates rules (constants_run (drop i all) setting s) x u
+  unfolding and_then
+  constant_on e k =
+      rw (front all within is) (joined_on (evaluation first.value setting s) (define-first first)
+      (definitions-left (drop (i + 1) all) setting) e k)
 
 -- ---- isset, by whether its first place is missing
 

@@ -20,11 +20,12 @@ use Rattle.dp_state.specs.declared.moments.Path.{Path}
 use Rattle.dp_state.specs.declared.state.Frame.{Frame}
 use Rattle.dp_state.specs.declared.state.State.{State}
 use Rattle.dp_state.specs.declared.vars.Slot.TheVariants.{Bound}
+use Rattle.dp_state.specs.Constants.{with_constant}
 use Rattle.dp_state.specs.Functions.{called, called_frame, included, included_frame, any_declared}
 use Rattle.dp_state.specs.Places.{assigned, given_keys, unset, then_state, with_global, with_null, with_own, with_value, with_variables, with_vars}
 use Rattle.dp_state.specs.States.{IsOf, entered, frame_limit, on_line, owner_at, printed, read_at, variables_at, with_line}
 use Rattle.dp_state.specs.Variables.{Variables, with_slot, without}
-use Rattle.dp_state.proofs.Kept.{of-assigned, of-called, of-counted, of-included, of-left, of-on_line, of-opening, of-printed, of-unset, of-with_global}
+use Rattle.dp_state.proofs.Kept.{of-assigned, of-called, of-counted, of-included, of-left, of-on_line, of-opening, of-printed, of-unset, of-with_constant, of-with_global}
 use Rattle.dp_tree.specs.declared.tree.Expression.{Expression}
 use Rattle.dp_tree.specs.declared.tree.Function.{Function}
 use Rattle.dp_meaning.specs.declared.stop.Stop.{Stop}
@@ -104,6 +105,9 @@ depth-global name s =
     let more : Variables = with_slot (variables_at s 0) name Bound in
     depth-either (owner_at s 0 == 0) s g (with_variables 0 more g) refl (depth-own (owner_at g 0) more g)
 
+depth-constant : (name : List ℕ) (v : Value) (s : State) → SameDepth s (with_constant name v s)
+depth-constant name v s = depth-either _ s s _ refl refl
+
 either-ok : (b : Bool) (s t : State) (kind : FatalKind) → (if b then Ok s else Err kind) ≡ Ok t → s ≡ t
 either-ok true s t kind e = cc
 either-ok false s t kind e = absurd (cc)
@@ -160,6 +164,7 @@ module _ (bundle : Bundle) where
         (of-assigned bundle level name keys push v s t e p.0, depth-assigned level name keys push v s t e ∙ p.1);
     unsets = λ d n name keys s t e p. (of-unset bundle name keys s t e p.0, depth-unset name keys s t e ∙ p.1);
     binds = λ d n name s p. (of-with_global bundle name s p.0, depth-global name s ∙ p.1);
+    defines = λ d n name v s p. (of-with_constant bundle name v s p.0, depth-constant name v s ∙ p.1);
     prints = λ d n piece s t e p. (of-printed bundle piece s t e p.0, depth-printed piece s t e ∙ p.1);
     calls =
         λ d n file f values s t within e p. (
@@ -210,6 +215,7 @@ module _ (bundle : Bundle) where
           lowest = p.0.lowest;
           apart = p.0.apart;
           globals = p.0.globals;
+          constants = p.0.constants;
           files = p.0.files;
           declared = p.0.declared;
         },
@@ -233,6 +239,7 @@ module _ (bundle : Bundle) where
               lowest = q.0.lowest;
               apart = q.0.apart;
               globals = q.0.globals;
+              constants = q.0.constants;
               files =
                   q.0.files;
               declared = q.0.declared;

@@ -12,7 +12,9 @@ use Rattle.dp_value.specs.Value.{data_of}
 use Rattle.dp_operations.specs.Binary.{binary_of}
 use Rattle.dp_operations.specs.Indices.{found_by, indexed, looked_up}
 use Rattle.dp_operations.specs.Unary.{unary_of}
+use Rattle.dp_state.specs.Constants.{constant}
 use Rattle.dp_state.specs.declared.moments.FatalKind.{FatalKind}
+use Rattle.dp_state.specs.declared.moments.FatalKind.TheVariants.{NoConstant}
 use Rattle.dp_state.specs.declared.state.State.{State}
 use Rattle.dp_state.specs.Faults.{kind_of_value, kind_of_write}
 use Rattle.dp_state.specs.Places.{keys_of_indices}
@@ -26,6 +28,7 @@ use Rattle.dp_tree.specs.declared.tree.Operator.TheVariants.{Or, And, Of}
 use Rattle.dp_tree.specs.declared.tree.Place.{Place, map-Place, roll-Place}
 use Rattle.dp_tree.specs.Purity as purity
 use Rattle.dp_tree.specs.inner.Parts as inside
+use Rattle.dp_actions.specs.Constants.{constant_run, read_constant}
 use Rattle.dp_actions.specs.Expressions.{ExpressionRun, ItemRun, LinkRun, values_run, indices_run, links_run, items_run, operator_run, item_run, coalesced, choice, conditional, place_layer, item_layer, link_layer, expression_layer, expression_run, place_run, evaluation}
 use Rattle.dp_actions.specs.Expressions.{item_run_of, link_run}
 use Rattle.dp_actions.specs.Places.{PlaceRun, isset_run, variable}
@@ -61,6 +64,10 @@ plain-value (Err e) s = Faulty (kind_of_value e) refl
 plain-write : (r : Result Data WriteError) (s : State) → IsPlain s (write_run r s)
 plain-write (Ok v) s = Given _ refl
 plain-write (Err e) s = Faulty (kind_of_write e) refl
+
+plain-constant : (o : Option Value) (s : State) → IsPlain s (read_constant o s)
+plain-constant None s = Faulty NoConstant refl
+plain-constant (Some v) s = Given v refl
 
 -- ---- parts
 
@@ -207,6 +214,8 @@ plain-layer (Expression-F.Bool b) pure = (λ setting s. Given _ refl, λ setting
 plain-layer (Expression-F.Number m) pure = (λ setting s. Given _ refl, λ setting s. Given _ refl)
 plain-layer (Expression-F.Text bytes) pure = (λ setting s. Given _ refl, λ setting s. Given _ refl)
 plain-layer (Expression-F.Variable name) pure = (λ setting s. Given _ refl, λ setting s. Given _ refl)
+plain-layer (Expression-F.Constant name) pure =
+    let k : PlainPart (λ setting s. constant_run name s) = λ setting s. plain-constant (constant name s) s in (k, k)
 plain-layer (Expression-F.Array items) pure =
     let k = plain-items _ (each-pure inside.item_is_pure item_run_of PlainFrom items pure) (value.Array empty) in (k, k)
 plain-layer (Expression-F.Call name arguments) pure = absurd (cc)

@@ -3,11 +3,10 @@
 use Rattle.std.proofs.Common.{◌≡◌, ℕ, Bool, true, false, if◌then◌else◌, List, [], ◌∷◌, map, Option, Some, None, Result, Ok, Err, is_some, refl, sym, ap, ◌∙◌, subst}
 use Rattle.std.specs.List.{list_all}
 use Rattle.std.specs.Option.{option_map_or}
-use Rattle.dp_value.specs.declared.errors.CallError.{CallError}
 use Rattle.dp_value.specs.declared.errors.ValueError.{ValueError}
 use Rattle.dp_value.specs.declared.errors.WriteError.{WriteError}
 use Rattle.dp_tree.specs.declared.operators.BinaryOp.{BinaryOp}
-use Rattle.dp_tree.specs.declared.operators.Builtin.{Builtin}
+use Rattle.dp_tree.specs.declared.operators.Native.{Native}
 use Rattle.dp_tree.specs.declared.operators.UnaryOp.{UnaryOp}
 use Rattle.dp_value.specs.declared.value.Value.{Value}
 use Rattle.dp_value.specs.declared.value.Value.TheVariants as value
@@ -16,9 +15,9 @@ use Rattle.dp_value.specs.Entry.{write_result}
 use Rattle.dp_value.specs.Table.{empty}
 use Rattle.dp_value.specs.Value.{data_of}
 use Rattle.dp_operations.specs.Binary.{binary_of}
-use Rattle.dp_operations.specs.Builtins.{builtin_of}
 use Rattle.dp_operations.specs.Indices.{found_by, indexed, indexed_by, looked_up}
 use Rattle.dp_operations.specs.Unary.{unary_of}
+use Rattle.dp_state.specs.Constants.{constant, with_constant}
 use Rattle.dp_state.specs.declared.moments.FatalKind.{FatalKind}
 use Rattle.dp_state.specs.declared.moments.Outcome.{Outcome}
 use Rattle.dp_state.specs.declared.state.State.{State}
@@ -38,12 +37,13 @@ use Rattle.dp_actions.specs.declared.halt.Halt.{Halt}
 use Rattle.dp_actions.specs.declared.halt.Halt.TheVariants.{Memory, Finished as HasFinished, Stopped}
 use Rattle.dp_actions.specs.AtOnce.{AtOnce, Leaves}
 use Rattle.dp_actions.specs.Calls.{BuiltIn, Callee, call_run, declared_callee}
+use Rattle.dp_actions.specs.Constants.{constant_run}
 use Rattle.dp_actions.specs.Expressions.{ExpressionRun, ItemRun, LinkRun, values_run, indices_run, links_run, items_run, operator_run, item_run, coalesced, choice, conditional, place_layer, item_layer, link_layer, expression_layer, expression_run, place_run, evaluation, evaluations}
 use Rattle.dp_actions.specs.Expressions.{item_run_of, link_run}
 use Rattle.dp_actions.specs.Places.{PlaceRun, assign_run, assigned_under, assignment, coalescing, compound, isset_run, step, stepped, variable}
 use Rattle.dp_actions.specs.Run.{Run, Done, Over, and_then, taken}
 use Rattle.dp_actions.specs.Setting.{Setting, Part}
-use Rattle.dp_actions.specs.Values.{builtin_run, value_run, write_run, holds, is_missing}
+use Rattle.dp_actions.specs.Values.{value_run, write_run, holds, is_missing}
 use Rattle.dp_meaning.specs.inner.Drive.{Ends, Gives, Meets, drive, only_bounded}
 use Rattle.dp_tree.specs.declared.bundle.Bundle.{Bundle}
 use Rattle.dp_meaning.specs.declared.whole.Whole.{Whole}
@@ -52,6 +52,7 @@ use Rattle.dp_tree.specs.Purity as purity
 use Rattle.dp_meaning.specs.Momentless as momentless
 use Rattle.dp_meaning.specs.inner.MomentlessParts as inside
 use Rattle.dp_meaning.proofs.Always.{Each}
+use Rattle.dp_meaning.proofs.NativeRuns.{IsNative, WithConstant, WithFault, WithValue, native-is, read-is}
 use Rattle.dp_meaning.proofs.PureLaws.{both-true}
 
 -- a run that gives something or ends the program, before any moment
@@ -80,9 +81,10 @@ quiet-write : (r : Result Data WriteError) (s : State) → IsQuiet (write_run r 
 quiet-write (Ok v) s = Given _ s refl
 quiet-write (Err e) s = Finished _ s refl
 
-quiet-builtin : (r : Result Data CallError) (s : State) → IsQuiet (builtin_run r s)
-quiet-builtin (Ok v) s = Given _ s refl
-quiet-builtin (Err e) s = Finished _ s refl
+pub quiet-native : (r : Run Value) (s : State) → IsNative s r → IsQuiet r
+quiet-native r s (WithValue v e) = Given v s e
+quiet-native r s (WithConstant name v given e) = Given given (with_constant name v s) e
+quiet-native r s (WithFault kind e) = Finished _ s e
 
 quiet-taken : (r : Result State FatalKind) (s : State) → IsQuiet (taken r s)
 quiet-taken (Ok t) s = Given _ t refl
@@ -190,14 +192,13 @@ module _ (place : PlaceRun) (quiet : QuietPlace place) where
 
 -- ---- calls
 
-quiet-call : (b : Option Builtin) (declared : Setting → State → Option Callee) (arguments : List ExpressionRun)
+quiet-call : (b : Option Native) (declared : Setting → State → Option Callee) (arguments : List ExpressionRun)
     → is_some b ≡ true → Each QuietExpression arguments
     → QuietPart (λ setting s. call_run (option_map_or (λ f. Some (BuiltIn f)) b (declared setting s))
     (values_run arguments) setting s)
 quiet-call None declared arguments there each setting s = absurd (cc)
 quiet-call (Some b) declared arguments there each setting s =
-    quiet-then _ _ (quiet-values arguments each setting s) (λ values t. quiet-builtin
-    (builtin_of b (map data_of values)) t)
+    quiet-then _ _ (quiet-values arguments each setting s) (λ values t. quiet-native _ t (native-is b values t))
 
 -- ---- whole trees
 
@@ -278,6 +279,9 @@ quiet-layer (Expression-F.Bool b) all = (λ setting s. Given _ s refl, λ settin
 quiet-layer (Expression-F.Number m) all = (λ setting s. Given _ s refl, λ setting s. Given _ s refl)
 quiet-layer (Expression-F.Text bytes) all = (λ setting s. Given _ s refl, λ setting s. Given _ s refl)
 quiet-layer (Expression-F.Variable name) all = (λ setting s. Given _ s refl, λ setting s. Given _ s refl)
+quiet-layer (Expression-F.Constant name) all =
+    let k : QuietPart (λ setting s. constant_run name s) =
+    λ setting s. quiet-native _ s (read-is (constant name s) s) in (k, k)
 quiet-layer (Expression-F.Array items) all =
     let k = quiet-items _ (each-quiet inside.item_is_momentless item_run_of QuietFrom items all) (value.Array empty) in
     (k, k)

@@ -2,7 +2,7 @@
 use Rattle.std.proofs.Common.{◌≡◌, ℕ, zero, suc, ◌+◌, ◌-◌, ◌*◌, ◌<◌, ◌≤◌, List, [], ◌∷◌, length, get_or, map, Option, Some, None, refl, sym, ap, ◌∙◌, subst, arith}
 use Rattle.std.specs.Prelude.{slice_get}
 use Rattle.std.specs.Option.{option_map_or}
-use denote.Param.Weighed.{most}
+use denote.Param.Weighed.{at_most, most}
 use Rattle.dp_tree.specs.declared.bundle.Bundle.{Bundle}
 use Rattle.dp_tree.specs.declared.bundle.BundleFile.{BundleFile}
 use Rattle.dp_tree.specs.declared.bundle.FunctionRef.{FunctionRef}
@@ -11,7 +11,8 @@ use Rattle.dp_state.specs.declared.state.State.{State}
 use Rattle.dp_state.specs.Functions.{declared_function}
 use Rattle.dp_tree.specs.declared.tree.Arm.{Arm}
 use Rattle.dp_tree.specs.declared.tree.Binding.{Binding}
-use Rattle.dp_tree.specs.declared.tree.Expression.{Expression}
+use Rattle.dp_tree.specs.declared.tree.Definition.{Definition}
+use Rattle.dp_tree.specs.declared.tree.Expression.{Expression, size-Expression as measure}
 use Rattle.dp_tree.specs.declared.tree.Function.{Function}
 use Rattle.dp_tree.specs.declared.tree.Place.{Place, size-Place}
 use Rattle.dp_tree.specs.declared.tree.Statement.{Statement}
@@ -20,10 +21,10 @@ use Rattle.dp_tree.specs.declared.tree.StatementKind.TheFolds.{fold-roll-Stateme
 use Rattle.dp_tree.specs.declared.tree.StatementKind.TheOpen.{StatementKind-F}
 use Rattle.dp_tree.specs.declared.tree.StatementKind.TheVariants as kind
 use Rattle.dp_tree.specs.Builtins.{builtin_of as builtin_named}
-use Rattle.dp_tree.specs.declared.operators.Builtin.{Builtin}
+use Rattle.dp_tree.specs.declared.operators.Native.{Native}
 use Rattle.dp_actions.specs.Calls.{BuiltIn, Declared, callee, declared_callee}
 use Rattle.dp_actions.specs.Bodies.{statements_of}
-use Rattle.dp_meaning.specs.inner.Sizes.{arm_layer, arm_size, body_size, expression_size, files_size, frame_size, functions_size, kind_layer, kind_size, sizes_sum, statement_layer, statement_size}
+use Rattle.dp_meaning.specs.inner.Sizes.{arm_layer, arm_size, body_size, definitions_size, expression_size, files_size, frame_size, functions_size, kind_layer, kind_size, sizes_sum, statement_layer, statement_size}
 
 -- ---- statements
 
@@ -81,6 +82,12 @@ unfolding kind_size arm_size statement_size
 size-Unset places = ap kind_size (sym (kind.rolls-Unset places))
     ∙ fold-roll-StatementKind ℕ ℕ ℕ kind_layer arm_layer statement_layer (StatementKind-F.Unset places)
 
+pub size-Constants : (all : List Definition)
+    → kind_size (kind.Constants all) ≡ kind_layer (StatementKind-F.Constants all)
+unfolding kind_size arm_size statement_size
+size-Constants all = ap kind_size (sym (kind.rolls-Constants all))
+    ∙ fold-roll-StatementKind ℕ ℕ ℕ kind_layer arm_layer statement_layer (StatementKind-F.Constants all)
+
 pub size-Exit : (value : Option Expression) → kind_size (kind.Exit value) ≡ kind_layer (StatementKind-F.Exit value)
 unfolding kind_size arm_size statement_size
 size-Exit value = ap kind_size (sym (kind.rolls-Exit value))
@@ -135,6 +142,14 @@ size-in size (y ∷ xs) (suc i) x h e =
 
 pub size-some : {X : Type 0} (size : X → ℕ) (o : Option X) (x : X) → o ≡ Some x → option_map_or size o 0 ≡ size x
 size-some size o x e = ap (λ o. option_map_or size o 0) e
+
+pub size-definition : (ds : List Definition) (i : ℕ) (d : Definition) → i < length ds → d ≡ get_or ds i d
+    → expression_size d.value ≤ definitions_size ds
+size-definition ds i d within is =
+    let least : measure (get_or ds i d).value ≤ most (λ (d : Definition). measure d.value) ds
+    = at_most (λ (d : Definition). measure d.value) ds i d within in
+    let same : measure d.value ≡ measure (get_or ds i d).value = ap (λ (d : Definition). measure d.value) is in
+    omega arith
 
 -- ---- bundles
 
@@ -207,7 +222,7 @@ frame-callee bundle name s file f e = go (builtin_named name) (declared_function
         let same : g ≡ f = cc in subst (λ (f : Function). body_size f.body + 1 < frame_size bundle) same
         (frame-function bundle reference g h)
 
-    go : (o : Option Builtin) (r : Option FunctionRef)
+    go : (o : Option Native) (r : Option FunctionRef)
         → option_map_or (λ b. Some (BuiltIn b)) o (option_map_or (declared_callee bundle) r None) ≡ Some
         (Declared file f)
         → body_size f.body + 1 < frame_size bundle

@@ -16,6 +16,7 @@ use Rattle.dp_state.specs.declared.moments.FatalKind.TheVariants.{Arguments, Red
 use Rattle.dp_state.specs.declared.state.Frame.{Frame}
 use Rattle.dp_state.specs.declared.state.State.{State}
 use Rattle.dp_state.specs.declared.vars.Slot.TheVariants.{Bound}
+use Rattle.dp_state.specs.Constants.{with_constant}
 use Rattle.dp_state.specs.Functions.{called, called_frame, included, included_frame, any_declared}
 use Rattle.dp_state.specs.Places.{assigned, unset, then_state, with_global, with_null, with_own, with_value, with_variables}
 use Rattle.dp_state.specs.States.{entered, frame_limit, owner_at, printed, read_at, variables_at}
@@ -76,6 +77,9 @@ moments-global name s =
     let more : Variables = with_slot (variables_at s 0) name Bound in
     as-either (owner_at s 0 == 0) g (with_variables 0 more g) s.moments refl (moments-own (owner_at g 0) more g)
 
+moments-constant : (name : List ℕ) (v : Value) (s : State) → (with_constant name v s).moments ≡ s.moments
+moments-constant name v s = as-either _ _ _ s.moments refl refl
+
 moments-printed : (piece : List ℕ) (s t : State) → printed piece s ≡ Ok t → t.moments ≡ s.moments
 moments-printed piece s t e = ap (λ (u : State). u.moments) (sym (either-ok _ _ _ _ e))
 
@@ -119,6 +123,7 @@ kept bundle = record {
   assigns = λ d n level name keys push v s t e p. moments-assigned level name keys push v s t e ∙ p;
   unsets = λ d n name keys s t e p. moments-unset name keys s t e ∙ p;
   binds = λ d n name s p. moments-global name s ∙ p;
+  defines = λ d n name v s p. moments-constant name v s ∙ p;
   prints = λ d n piece s t e p. moments-printed piece s t e ∙ p;
   calls = λ d n file f values s t within e p. moments-called file f values s t e ∙ p;
   includes = λ d n file s t within e p. moments-included bundle file s t e ∙ p;

@@ -16,6 +16,7 @@ momentless_layer (Expression-F.Bool _) = true
 momentless_layer (Expression-F.Number _) = true
 momentless_layer (Expression-F.Text _) = true
 momentless_layer (Expression-F.Variable _) = true
+momentless_layer (Expression-F.Constant _) = true
 momentless_layer (Expression-F.Array items) = all_hold items
 momentless_layer (Expression-F.Call name arguments) =
     is_some (builtin_of name) && all_hold arguments

@@ -5,11 +5,11 @@
 use crate::evaluator::Evaluator;
 use crate::outside::Outside;
 use dp_actions::{
-    Callee, Halt, Signal, builtin_call, enter_call, enter_file, fatal, file_named_by, look_up,
+    Callee, Halt, Signal, enter_call, enter_file, fatal, file_named_by, look_up, native_call,
     not_included, returned, statements_of,
 };
 use dp_state::{FatalKind, MomentKind, State};
-use dp_tree::{Builtin, Expression, Function, Inclusion};
+use dp_tree::{Expression, Function, Inclusion, Native};
 use dp_value::{Bytes, Items, Value};
 
 impl<O: Outside> Evaluator<'_, O> {
@@ -48,7 +48,7 @@ impl<O: Outside> Evaluator<'_, O> {
     #[cycle(evaluate)]
     fn call_builtin(
         &self,
-        function: Builtin,
+        function: Native,
         arguments: &[Expression],
         state: &mut State,
     ) -> Result<Value, Halt>
@@ -56,7 +56,7 @@ impl<O: Outside> Evaluator<'_, O> {
             (evaluations arguments.now) (goes_by self.now) state.old) result state.new }
     {
         let values = self.values(arguments, state)?;
-        builtin_call(self.alloc, function, values.as_slice(), state)
+        native_call(self.alloc, function, values.as_slice(), state)
     }
 
     /// A call of a function of a file.

@@ -4,7 +4,7 @@
 
 use crate::evaluator::Evaluator;
 use crate::outside::Outside;
-use dp_actions::{Halt, Reading, text_value, then_unary, variable_value};
+use dp_actions::{Halt, Reading, constant_value, text_value, then_unary, variable_value};
 use dp_state::State;
 use dp_tree::{Expression, Inclusion};
 use dp_value::{Items, Value};
@@ -26,6 +26,7 @@ impl<O: Outside> Evaluator<'_, O> {
             Expression::Number(n) => Ok(Value::Int(*n)),
             Expression::Text(bytes) => text_value(self.alloc, bytes),
             Expression::Variable(name) => variable_value(name, state),
+            Expression::Constant(name) => constant_value(name, state),
             Expression::Array(items) => self.array(items.as_slice(), state),
             Expression::Call(name, arguments) => self.named(name, arguments.as_slice(), state),
             Expression::Isset(places) => self.isset(places.as_slice(), state),

@@ -20,7 +20,8 @@ pub fn is_momentless(e: &Expression) -> bool
         | Expression::Bool(_)
         | Expression::Number(_)
         | Expression::Text(_)
-        | Expression::Variable(_) => true,
+        | Expression::Variable(_)
+        | Expression::Constant(_) => true,
         Expression::Array(items) => items_are_momentless(items.as_slice()),
         Expression::Call(name, arguments) => {
             builtin_of(name.as_slice()).is_some() && all_momentless(arguments.as_slice())

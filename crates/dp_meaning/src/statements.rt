@@ -5,11 +5,11 @@
 use crate::evaluator::Evaluator;
 use crate::outside::Outside;
 use dp_actions::{
-    Halt, Signal, bind_all, then_exit, then_holds, then_next, then_print, then_return, then_signal,
-    unset_place,
+    Halt, Signal, bind_all, then_define, then_exit, then_holds, then_next, then_print, then_return,
+    then_signal, unset_place,
 };
 use dp_state::{Outcome, State};
-use dp_tree::{Arm, Boxed, Expression, Place, Statement, StatementKind};
+use dp_tree::{Arm, Boxed, Definition, Expression, Place, Statement, StatementKind};
 use dp_value::Value;
 use std::slice;
 
@@ -19,7 +19,8 @@ impl<O: Outside> Evaluator<'_, O> {
     ghost use Rattle.dp_meaning.specs.inner.Evaluation.{goes_by};
     ghost use Rattle.dp_actions.specs.Expressions.{expression_run, place_run};
     ghost use Rattle.dp_actions.specs.Places.{unset_run};
-    ghost use Rattle.dp_actions.specs.Statements.{arms_run, body_run, echoes, end_run, return_run, statement_run};
+    ghost use Rattle.dp_actions.specs.Statements.{arms_run, body_run, constants_run, echoes, end_run, return_run};
+    ghost use Rattle.dp_actions.specs.Statements.{statement_run};
     ghost use Rattle.dp_actions.specs.Statements.{arm_run};
 
     /// Statements, one after another.
@@ -117,6 +118,10 @@ impl<O: Outside> Evaluator<'_, O> {
                 self.place(line, state)?;
                 then_signal(self.unset(places.as_slice(), state), Signal::Next)
             }
+            StatementKind::Constants(all) => {
+                self.place(line, state)?;
+                self.constants(all.as_slice(), state)
+            }
             StatementKind::Exit(value) => {
                 self.place(line, state)?;
                 self.exit(value, state)
@@ -183,6 +188,22 @@ impl<O: Outside> Evaluator<'_, O> {
             unset_place(self.alloc, &place.name, indices.as_slice(), state)?;
         }
         Ok(())
+    }
+
+    /// `const`
+    #[cycle(evaluate)]
+    fn constants(&self, all: &[Definition], state: &mut State) -> Result<Signal, Halt>
+        ensures { Evaluates (O.rules self.now.outside.now) (constants_run all.now (goes_by self.now) state.old) result
+            state.new }
+    {
+        for definition in all {
+            then_define(
+                &definition.name,
+                self.expression(&definition.value, state),
+                state,
+            )?;
+        }
+        Ok(Signal::Next)
     }
 
     /// `exit`

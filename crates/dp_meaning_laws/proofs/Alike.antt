@@ -1,12 +1,11 @@
 -- Two runs that go alike: what is kept by each step of a program is true at each of their moments and at their ends,
 -- and they differ at most in where they are over by the bound.
-use Rattle.std.proofs.Common.{◌≡◌, ℕ, ◌+◌, ◌<◌, ◌≤◌, Bool, true, false, List, length, Option, Some, Result, Ok, Err, refl, subst, arith}
+use Rattle.std.proofs.Common.{◌≡◌, ℕ, ◌+◌, ◌<◌, ◌≤◌, Bool, true, false, List, length, Option, Some, Result, Ok, Err, refl, sym, subst, arith}
 use Rattle.std.specs.Prelude.{if◌then◌else◌, slice_get}
 use Rattle.dp_tree.specs.CodeLines.{file_lines}
 use Rattle.dp_tree.specs.declared.bundle.Bundle.{Bundle}
 use Rattle.dp_tree.specs.declared.bundle.BundleFile.{BundleFile}
 use Rattle.dp_tree.specs.declared.tree.Function.{Function}
-use Rattle.dp_value.specs.declared.errors.CallError.{CallError}
 use Rattle.dp_value.specs.declared.errors.ValueError.{ValueError}
 use Rattle.dp_value.specs.declared.errors.WriteError.{WriteError}
 use Rattle.dp_value.specs.declared.key.Key.{Key}
@@ -18,12 +17,14 @@ use Rattle.dp_state.specs.declared.moments.MomentKind.TheVariants.{Place, Enter,
 use Rattle.dp_state.specs.declared.moments.Outcome.{Outcome}
 use Rattle.dp_state.specs.declared.moments.Outcome.TheVariants as way
 use Rattle.dp_state.specs.declared.state.State.{State}
+use Rattle.dp_state.specs.Constants.{with_constant}
 use Rattle.dp_state.specs.Functions.{called, included}
 use Rattle.dp_state.specs.Places.{assigned, unset, with_global}
 use Rattle.dp_state.specs.States.{printed, left}
 use Rattle.dp_actions.specs.Run.{Run, Done, Over, At, and_then, taken}
 use Rattle.dp_actions.specs.Setting.{Setting, Part}
-use Rattle.dp_actions.specs.Values.{value_run, builtin_run, write_run}
+use Rattle.dp_actions.specs.Values.{value_run, write_run}
+use Rattle.dp_meaning.proofs.NativeRuns.{IsNative, WithConstant, WithFault, WithValue}
 use Rattle.dp_meaning_laws.proofs.Each.{Each}
 
 -- what is true along a run whose frames are told by a D
@@ -83,6 +84,8 @@ module _ {D : Type 0} (F : Facts D) where
     pub unsets : (d : D) (n : ℕ) (name : List ℕ) (keys : List (Option Key)) (s t : State) → unset name keys s ≡ Ok t
         → F.state d n s → F.state d n t
     pub binds : (d : D) (n : ℕ) (name : List ℕ) (s : State) → F.state d n s → F.state d n (with_global name s)
+    pub defines : (d : D) (n : ℕ) (name : List ℕ) (v : Value) (s : State) → F.state d n s
+        → F.state d n (with_constant name v s)
     pub prints : (d : D) (n : ℕ) (piece : List ℕ) (s t : State) → printed piece s ≡ Ok t → F.state d n s → F.state d n t
     pub calls : (d : D) (n file : ℕ) (f : Function) (values : List Value) (s t : State)
         → file < length bundle.files → called file f values s ≡ Ok t → F.state d n s → F.state (F.down file d) n t
@@ -143,13 +146,18 @@ module _ {D : Type 0} (F : Facts D) where
   Keeps-value (Ok v) d n s p = (p, refl, refl)
   Keeps-value (Err e) d n s p = (d, p, tt, refl, refl)
 
-  pub Keeps-builtin : (r : Result Data CallError) (d : D) → Keeps d (builtin_run r) (builtin_run r)
-  Keeps-builtin (Ok v) d n s p = (p, refl, refl)
-  Keeps-builtin (Err e) d n s p = (d, p, tt, refl, refl)
-
   pub Keeps-write : (r : Result Data WriteError) (d : D) → Keeps d (write_run r) (write_run r)
   Keeps-write (Ok v) d n s p = (p, refl, refl)
   Keeps-write (Err e) d n s p = (d, p, tt, refl, refl)
+
+  -- a built-in function
+  pub Alike-native : (bundle : Bundle) → IsKept bundle → (r : Run Value) (d : D) (n : ℕ) (s : State) → IsNative s r
+      → F.state d n s → Alike d n r r
+  Alike-native bundle kept r d n s (WithValue v e) p = subst (λ (r : Run Value). Alike d n r r) (sym e) (p, refl, refl)
+  Alike-native bundle kept r d n s (WithConstant name v given e) p =
+      subst (λ (r : Run Value). Alike d n r r) (sym e) (kept.defines d n name v s p, refl, refl)
+  Alike-native bundle kept r d n s (WithFault kind e) p =
+      subst (λ (r : Run Value). Alike d n r r) (sym e) (d, p, tt, refl, refl)
 
   -- Two settings in which calls and included files keep it, from these frames on, and a loop has enough turns
   pub record AreAlike (bundle : Bundle) (d : D) (x y : Setting) : Type 0 where

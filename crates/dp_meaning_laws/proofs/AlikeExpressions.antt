@@ -1,5 +1,5 @@
 -- What is kept by each step of a program is kept by expressions.
-use Rattle.std.proofs.Common.{◌≡◌, Bool, true, false, List, [], ◌∷◌, map, Option, Some, None, Result, refl, sym, subst}
+use Rattle.std.proofs.Common.{◌≡◌, true, false, List, [], ◌∷◌, map, Option, Some, None, Result, refl, sym, subst}
 use Rattle.dp_tree.specs.declared.bundle.Bundle.{Bundle}
 use Rattle.dp_value.specs.declared.errors.ValueError.{ValueError}
 use Rattle.dp_value.specs.declared.value.Value.{Value}
@@ -11,6 +11,7 @@ use Rattle.dp_value.specs.Value.{data_of}
 use Rattle.dp_operations.specs.Binary.{binary_of}
 use Rattle.dp_operations.specs.Indices.{indexed, looked_up}
 use Rattle.dp_operations.specs.Unary.{unary_of}
+use Rattle.dp_state.specs.Constants.{constant}
 use Rattle.dp_state.specs.declared.state.State.{State}
 use Rattle.dp_state.specs.Places.{keys_of_indices}
 use Rattle.dp_tree.specs.declared.tree.Expression.{Expression, ind-Expression, map-Expression, roll-Expression}
@@ -21,13 +22,15 @@ use Rattle.dp_tree.specs.declared.tree.Link.{Link, map-Link, roll-Link}
 use Rattle.dp_tree.specs.declared.tree.Operator.{Operator}
 use Rattle.dp_tree.specs.declared.tree.Operator.TheVariants.{Or, And, Of}
 use Rattle.dp_tree.specs.declared.tree.Place.{Place, map-Place, roll-Place, ind-Place}
+use Rattle.dp_actions.specs.Constants.{constant_run}
 use Rattle.dp_actions.specs.Expressions.{ExpressionRun, ItemRun, LinkRun, values_run, indices_run, links_run, items_run, operator_run, item_run, choice, conditional, coalesced, chained, operated, included, plain, place_layer, item_layer, link_layer, expression_layer, expression_run, place_run, evaluations}
 use Rattle.dp_actions.specs.Expressions.{item_run_of, link_run}
 use Rattle.dp_actions.specs.Places.{PlaceRun, variable}
 use Rattle.dp_actions.specs.Run.{Done}
 use Rattle.dp_actions.specs.Setting.{Setting, Part}
 use Rattle.dp_actions.specs.Values.{holds, is_missing}
-use Rattle.dp_meaning_laws.proofs.Alike.{AreAlike, Facts, IsKept, KeepsPart, Keeps-and_then, Keeps-value, Keeps-write, Alike-if}
+use Rattle.dp_meaning.proofs.NativeRuns.{read-is}
+use Rattle.dp_meaning_laws.proofs.Alike.{Alike-native, AreAlike, Facts, IsKept, KeepsPart, Keeps-and_then, Keeps-value, Keeps-write, Alike-if}
 use Rattle.dp_meaning_laws.proofs.Each.{Each, each-images}
 use Rattle.dp_meaning_laws.proofs.AlikeCalls.{Keeps-named, Keeps-include}
 use Rattle.dp_meaning_laws.proofs.AlikePlaces.{KeepsPlace, Keeps-assignment, Keeps-coalescing, Keeps-compound, Keeps-isset, Keeps-step}
@@ -163,10 +166,13 @@ module _ {D : Type 0} (F : Facts D) (bundle : Bundle) (kept : IsKept F bundle) (
   keeps-layer (Expression-F.Number m) = leaf (λ s. value.Int m)
   keeps-layer (Expression-F.Text bytes) = leaf (λ s. value.Text bytes)
   keeps-layer (Expression-F.Variable name) = leaf (λ s. variable name s)
+  keeps-layer (Expression-F.Constant name) =
+      let k : KeepsPart F d x y (λ setting s. constant_run name s) =
+      λ n s p. Alike-native F bundle kept _ d n s (read-is (constant name s) s) p in (k, k)
   keeps-layer (Expression-F.Array items) =
       let k = Keeps-items _ (each-images item_run_of KeepsFrom items) (value.Array empty) in (k, k)
   keeps-layer (Expression-F.Call name arguments) =
-      let k = Keeps-named F bundle d x y good name _ (Keeps-values _
+      let k = Keeps-named F bundle kept d x y good name _ (Keeps-values _
       (each-images expression_run KeepsExpression arguments)) in (k, k)
   keeps-layer (Expression-F.Isset places) =
       let k = Keeps-isset F bundle kept d x y _ (each-images place_run (KeepsPlace F bundle kept d x y) places) in
@@ -197,7 +203,7 @@ module _ {D : Type 0} (F : Facts D) (bundle : Bundle) (kept : IsKept F bundle) (
       (λ e h. let same : expression_run middle.0 ≡ e = cc in subst KeepsExpression same middle.1) in (k, k)
   keeps-layer (Expression-F.Include how e) =
       let k : KeepsPart F d x y (included how (expression_run e.0)) =
-      λ n s p. Keeps-and_then F d n _ _ _ _ (e.1.0 n s p) (λ v. Keeps-include F bundle d x y good how v) in (k, k)
+      λ n s p. Keeps-and_then F d n _ _ _ _ (e.1.0 n s p) (λ v. Keeps-include F bundle kept d x y good how v) in (k, k)
   keeps-layer (Expression-F.Assign place right) =
       let k = Keeps-assignment F bundle kept d x y (place_run place.0) place.1
       (expression_run right.0).value right.1.0 false in (k, k)

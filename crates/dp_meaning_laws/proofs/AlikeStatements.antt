@@ -12,11 +12,12 @@ use Rattle.dp_value.specs.declared.value.Value.TheVariants as value
 use Rattle.dp_value.specs.Value.{data_of}
 use Rattle.dp_operations.specs.Text.{text_of}
 use Rattle.dp_state.specs.declared.moments.MomentKind.TheVariants.{Place}
-use Rattle.dp_state.specs.declared.moments.Outcome.TheVariants.{Exit}
 use Rattle.dp_state.specs.declared.state.State.{State}
+use Rattle.dp_state.specs.Constants.{with_constant}
 use Rattle.dp_state.specs.Places.{with_global}
 use Rattle.dp_state.specs.States.{printed}
 use Rattle.dp_tree.specs.declared.tree.Arm.{Arm, map-Arm, roll-Arm}
+use Rattle.dp_tree.specs.declared.tree.Definition.{Definition}
 use Rattle.dp_tree.specs.declared.tree.Expression.{Expression}
 use Rattle.dp_tree.specs.declared.tree.Place.{Place as TreePlace}
 use Rattle.dp_tree.specs.declared.tree.Statement.{Statement, map-Statement, roll-Statement, ind-Statement}
@@ -29,7 +30,7 @@ use Rattle.dp_actions.specs.Expressions.{expression_run, evaluation, evaluations
 use Rattle.dp_actions.specs.Loops.{do_turns, entries, after_body, turns}
 use Rattle.dp_actions.specs.Run.{Run, Done, Over, At, and_then, taken}
 use Rattle.dp_actions.specs.Setting.{Setting, Part}
-use Rattle.dp_actions.specs.Statements.{KindRun, ArmRun, go_on, placed, sequence, echoes, arms_run, return_run, end_run, kind_layer, arm_layer, statement_layer, statement_run, body_run}
+use Rattle.dp_actions.specs.Statements.{KindRun, ArmRun, go_on, placed, sequence, constants_run, echoes, arms_run, return_run, end_run, kind_layer, arm_layer, statement_layer, statement_run, body_run}
 use Rattle.dp_actions.specs.Effects.{with_globals, status_of, exit_with, exit_run}
 use Rattle.dp_actions.specs.inner.StatementParts.{kind_run}
 use Rattle.dp_actions.specs.Statements.{arm_run}
@@ -64,6 +65,12 @@ module _ {D : Type 0} (F : Facts D) (bundle : Bundle) (kept : IsKept F bundle) (
   Keeps-echoes (e ∷ es) n s p =
       Keeps-and_then F d n _ _ _ _ (keeps e n s p) (λ v n t p.
       Keeps-and_then F d n _ _ _ _ (Keeps-prints (text_of (data_of v)) n t p) (λ _. Keeps-echoes es))
+
+  Keeps-constants : (all : List Definition) → KeepsPart F d x y (constants_run all)
+  Keeps-constants [] n s p = (p, refl, refl)
+  Keeps-constants (first ∷ rest) n s p =
+      Keeps-and_then F d n _ _ _ _ (keeps first.value n s p) (λ v n t p.
+      Keeps-constants rest n (with_constant first.name v t) (kept.defines d n first.name v t p))
 
   Keeps-globals : (names : List (List ℕ)) (n : ℕ) (s : State) → F.state d n s → F.state d n (with_globals names s)
   Keeps-globals [] n s p = p
@@ -297,6 +304,7 @@ module _ {D : Type 0} (F : Facts D) (bundle : Bundle) (kept : IsKept F bundle) (
   keeps-layer (StatementKind-F.Unset places) line = placed-on [] line _ (λ _ n s p.
       Keeps-and_then F d n _ _ _ _ (Keeps-unset F bundle kept d x y (map place_run places) (all-places places) n s p)
       (λ _ n u p. (p, refl, refl)))
+  keeps-layer (StatementKind-F.Constants all) line = placed-on [] line _ (λ _. Keeps-constants all)
   keeps-layer (StatementKind-F.Exit value) line = placed-on [] line _ (λ _. keeps-end value)
 
   step-kind : (x : Whole) (z : WithGood) → parts z ≡ x

@@ -8,6 +8,7 @@ use Rattle.dp_value.specs.declared.value.Value.{Value}
 use Rattle.dp_state.specs.declared.moments.Outcome.{Outcome}
 use Rattle.dp_state.specs.declared.moments.Outcome.TheVariants as way
 use Rattle.dp_state.specs.declared.state.State.{State}
+use Rattle.dp_state.specs.Constants.{with_constant}
 use Rattle.dp_state.specs.Functions.{called, included}
 use Rattle.dp_state.specs.Places.{assigned, unset, with_global}
 use Rattle.dp_state.specs.States.{left, printed}
@@ -38,6 +39,7 @@ module _ {D : Type 0} (P : D → ℕ → State → Type 0) where
     pub unsets : (d : D) (n : ℕ) (name : List ℕ) (keys : List (Option Key)) (s t : State) → unset name keys s ≡ Ok t
         → P d n s → P d n t
     pub binds : (d : D) (n : ℕ) (name : List ℕ) (s : State) → P d n s → P d n (with_global name s)
+    pub defines : (d : D) (n : ℕ) (name : List ℕ) (v : Value) (s : State) → P d n s → P d n (with_constant name v s)
     pub prints : (d : D) (n : ℕ) (piece : List ℕ) (s t : State) → printed piece s ≡ Ok t → P d n s → P d n t
     pub calls : (d : D) (n file : ℕ) (f : Function) (values : List Value) (s t : State)
         → file < length bundle.files → called file f values s ≡ Ok t → P d n s → P (down d) n t

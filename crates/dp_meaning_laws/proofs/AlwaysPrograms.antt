@@ -36,6 +36,7 @@ module _ {D : Type 0} (P : D → ℕ → State → Type 0) (bundle : Bundle) (ke
     assigns = kept.assigns;
     unsets = kept.unsets;
     binds = kept.binds;
+    defines = kept.defines;
     prints = kept.prints;
     calls = kept.calls;
     includes = kept.includes;

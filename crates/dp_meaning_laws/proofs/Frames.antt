@@ -20,6 +20,7 @@ use Rattle.dp_state.specs.declared.moments.FatalKind.TheVariants.{Arguments, Red
 use Rattle.dp_state.specs.declared.state.Frame.{Frame}
 use Rattle.dp_state.specs.declared.state.State.{State}
 use Rattle.dp_state.specs.declared.vars.Slot.TheVariants.{Bound}
+use Rattle.dp_state.specs.Constants.{with_constant}
 use Rattle.dp_state.specs.Functions.{called, called_frame, included, included_frame, any_declared}
 use Rattle.dp_state.specs.Places.{assigned, unset, then_state, with_global, with_null, with_own, with_value, with_variables, with_vars}
 use Rattle.dp_state.specs.States.{entered, frame_limit, owner_at, printed, read_at, variables_at, with_line}
@@ -91,6 +92,9 @@ files-global name s =
     let g : State = record s { globals = with_null name s.globals } in
     let more : Variables = with_slot (variables_at s 0) name Bound in
     files-either (owner_at s 0 == 0) s g (with_variables 0 more g) refl (files-own (owner_at g 0) more g)
+
+pub files-constant : (name : List ℕ) (v : Value) (s : State) → SameFiles s (with_constant name v s)
+files-constant name v s = files-either _ s s _ refl refl
 
 either-ok : (b : Bool) (s t : State) (kind : FatalKind) → (if b then Ok s else Err kind) ≡ Ok t → s ≡ t
 either-ok true s t kind e = cc

@@ -14,7 +14,7 @@ use Rattle.dp_state.specs.declared.state.Frame.{Frame}
 use Rattle.dp_state.specs.declared.state.State.{State}
 use Rattle.dp_state.specs.Places.{assigned, given_keys}
 use Rattle.dp_state.specs.States.{IsOf, frame_limit, left, on_line, opening}
-use Rattle.dp_state.proofs.Kept.{of-assigned, of-called, of-counted, of-included, of-left, of-on_line, of-opening, of-printed, of-unset, of-with_global}
+use Rattle.dp_state.proofs.Kept.{of-assigned, of-called, of-counted, of-included, of-left, of-on_line, of-opening, of-printed, of-unset, of-with_constant, of-with_global}
 use Rattle.dp_meaning.specs.declared.writes.WriteFault.{WriteFault}
 use Rattle.dp_meaning.specs.declared.writes.WriteFault.TheVariants.{NoFrame}
 use Rattle.dp_meaning.specs.declared.writes.NumberedWrite.{NumberedWrite}
@@ -27,8 +27,8 @@ use Rattle.dp_meaning_laws.proofs.Alike.{Alike, Facts, IsKept}
 use Rattle.dp_meaning_laws.proofs.AlikeExpressions.{Keeps-expression}
 use Rattle.dp_meaning_laws.proofs.AlikePrograms.{Keeps-setting}
 use Rattle.dp_meaning_laws.proofs.Each.{Each, each-all}
-use Rattle.dp_meaning_laws.proofs.Frames.{IsAbove, SameFiles, files_in, files-assigned, files-unset, files-global, files-printed, files-left, files-with_line, above-called, above-included}
-use Rattle.dp_meaning_laws.proofs.Steady.{moments-assigned, moments-unset, moments-global, moments-printed, moments-called, moments-included}
+use Rattle.dp_meaning_laws.proofs.Frames.{IsAbove, SameFiles, files_in, files-assigned, files-constant, files-unset, files-global, files-printed, files-left, files-with_line, above-called, above-included}
+use Rattle.dp_meaning_laws.proofs.Steady.{moments-assigned, moments-unset, moments-constant, moments-global, moments-printed, moments-called, moments-included}
 
 -- the files of the frames: that of the main one, and those above it
 pub record Stack : Type 0 where
@@ -100,6 +100,9 @@ module _ (bundle : Bundle) where
     binds =
         λ d n name s p. same-there d n s _ (files-global name s) (moments-global name s)
         (of-with_global bundle name s p.of) p;
+    defines =
+        λ d n name v s p. same-there d n s _ (files-constant name v s) (moments-constant name v s)
+        (of-with_constant bundle name v s p.of) p;
     prints = λ d n piece s t e p.
         same-there d n s t (files-printed piece s t e) (moments-printed piece s t e)
         (of-printed bundle piece s t e p.of) p;
@@ -144,6 +147,7 @@ module _ (bundle : Bundle) where
       lowest = p.of.lowest;
       apart = p.of.apart;
       globals = p.of.globals;
+      constants = p.of.constants;
       files = p.of.files;
       declared = p.of.declared;
     };

@@ -47,8 +47,8 @@ pub fn moments_are_numbered()
         → outcome bundle bound writes ≡ way.Bound → length (program_trace bundle bound writes).moments ≡ bound }
 {}
 
-/// Each state of a program is a state of its bundle with no more than 100 frames: at each moment, before and after its
-/// writes, and at the end.
+/// Each state of a program is a state of its bundle with no more than 1,000 frames: at each moment, before and after
+/// its writes, and at the end.
 pub fn states_are_of_their_bundle()
     ensures arrived { (bundle : Bundle) (bound n : ℕ) (writes : List NumberedWrite) (p : Moment × State)
         → moment_at (program_trace bundle bound writes) n ≡ Some p → CanStand bundle p.1 }

@@ -1,5 +1,4 @@
--- Lemmas on what is put behind a list, on how long texts are, on codes, and on URIs.
-pub mod Chains
+-- Lemmas on what is put, on how long texts are, on codes, and on URIs.
 pub mod LengthLaws
 pub mod CodeLaws
 pub mod UriLaws
@@ -7,3 +6,5 @@ pub mod SizeLaws
 pub mod Base64Size
 pub mod PropertyLaws
 pub mod Integers
+pub mod OutLaws
+pub mod PropertyTexts

@@ -1,14 +1,12 @@
 -- How long what is written is, by the sizes of its parts.
 use Rattle.std.proofs.Common.{◌≡◌, ℕ, ◌+◌, ◌*◌, List, [], ◌∷◌, ◌++◌, length, codes, refl, ap, ◌∙◌, arith, append-nil, length-append}
 use Rattle.std.specs.List.{flat_map}
-use Rattle.dp_markup.proofs.RoundTrip.{text_node, child_node}
 use Rattle.dp_markup.proofs.Trees.{written_is}
 use Rattle.dp_markup.specs.declared.tree.Element.{Element}
 use Rattle.dp_markup.specs.declared.tree.Node.{Node}
-use Rattle.dp_markup.specs.declared.tree.Node.TheVariants as node
 use Rattle.dp_markup.specs.Escapes.{escaped_all}
 use Rattle.dp_markup.specs.Texts.{attribute_text, element_text, written, node_text, nodes_text}
-use Rattle.dp_packet.specs.Parts.{Text, Attributes, element, child, text_nodes}
+use Rattle.dp_packet.specs.Parts.{Text, Attributes}
 use Rattle.dp_packet.specs.declared.packet.Packet.{Packet}
 use Rattle.dp_packet.specs.Packets.{element_of}
 use Rattle.dp_packet.specs.Text.{declaration, text}
@@ -33,10 +31,6 @@ attributes_length (a ∷ more) =
       attributes_length more,
     )
 
-pub attributes_append : (a b : Attributes) → attributes_size (a ++ b) ≡ attributes_size a + attributes_size b
-attributes_append [] b = omega arith
-attributes_append (x ∷ a) b = omega (arith, attributes_append a b)
-
 element_length : (name content : Text) (attributes : Attributes)
     → length (element_text name attributes content) ≡ 5 + 2 * length name + attributes_size attributes + length content
 element_length name content attributes =
@@ -57,20 +51,9 @@ pub written_length : (e : Element)
     → length (written e) ≡ 5 + 2 * length e.name + attributes_size e.attributes + length (nodes_text e.children)
 written_length e = ap length (written_is e) ∙ element_length e.name (nodes_text e.children) e.attributes
 
-pub child_length : (name : Text) (attributes : Attributes) (children : List Node)
-    → length (node_text (child name attributes children)) ≡ 5 + 2 * length name + attributes_size attributes + length
-    (nodes_text children)
-child_length name attributes children =
-    ap length (child_node (element name attributes children)) ∙ written_length (element name attributes children)
-
 -- one node alone
 pub alone_length : (n : Node) → length (nodes_text (n ∷ [])) ≡ length (node_text n)
 alone_length n = ap length (append-nil (node_text n))
-
--- a text alone
-pub text_length : (bytes : Text) → length (nodes_text (text_nodes bytes)) ≡ length (escaped_all bytes)
-text_length [] = refl
-text_length (b ∷ bytes) = ap length (append-nil (node_text (node.Text (b ∷ bytes))) ∙ text_node (b ∷ bytes))
 
 pub packet_length : (p : Packet) → length (text p) ≡ 44 + length (written (element_of p))
 packet_length p = omega (arith, length-append declaration (written (element_of p)))

@@ -6,7 +6,7 @@ use Rattle.dp_packet.specs.declared.packet.BreakKind.TheVariants.{Line, Call, Re
 use Rattle.dp_packet.specs.declared.packet.HitRule.{HitRule}
 use Rattle.dp_packet.specs.declared.packet.HitRule.TheVariants.{AtLeast, Exactly, Multiple}
 use Rattle.dp_packet.specs.declared.packet.BreakLine.{BreakLine}
-use Rattle.dp_packet.specs.Parts.{Text, Attributes, child, text_nodes, given, flag}
+use Rattle.dp_packet.specs.Parts.{Text, Attributes, child, text_nodes, given, flag, mark}
 
 abbrev pub kind_name : BreakKind → Text
 kind_name Line = codes "line"
@@ -51,8 +51,7 @@ hit_attributes b =
 
 -- whether its line is what the engine made of the one that was asked for: what is not says nothing
 abbrev pub resolved_attribute : Bool → Attributes
-resolved_attribute true = (codes "resolved", codes "resolved") ∷ []
-resolved_attribute false = []
+resolved_attribute resolved = mark (codes "resolved") resolved
 
 abbrev pub expression_nodes : Option Text → List Node
 expression_nodes None = []

@@ -4,6 +4,8 @@ use Rattle.std.specs.Fmt.{signed_decimal}
 use Rattle.dp_markup.specs.declared.tree.Node.{Node}
 use Rattle.dp_packet.specs.declared.property.Property.{Property, fold-Property}
 use Rattle.dp_packet.specs.declared.property.Shape.TheOpen.{Shape-F, Property-F}
+use Rattle.dp_packet.specs.declared.property.ValueKind.{ValueKind}
+use Rattle.dp_packet.specs.declared.property.ValueKind.TheVariants as kind
 use Rattle.dp_packet.specs.Parts.{Text, Attributes, child, text_nodes, given, flag, base64}
 
 -- what a value adds to the attributes of its property, and what it puts between the tags
@@ -28,6 +30,14 @@ abbrev pub array_attributes : ℕ → ℕ → ℕ → Attributes
 array_attributes count page pagesize =
     (codes "type", codes "array") ∷ (codes "children", flag (not (count == 0)))
     ∷ paging_attributes count page pagesize
+
+-- what a start tag tells of a value
+abbrev pub kind_attributes : ValueKind → Attributes
+kind_attributes kind.Null = type_of (codes "null")
+kind_attributes kind.Bool = type_of (codes "bool")
+kind_attributes kind.Int = type_of (codes "int")
+kind_attributes (kind.Text size) = text_attributes size
+kind_attributes (kind.Array count page pagesize) = array_attributes count page pagesize
 
 -- a value, where its entries are nodes already
 abbrev pub value_attributes : Shape-F Part Node → Attributes

@@ -1,13 +1,15 @@
-//! The elements of errors, and why a proxy refuses.
-ghost use Rattle.std.specs.Prelude.{◌≡◌, IfOk};
+//! The texts of errors, and why a proxy refuses.
+ghost use Rattle.std.specs.Prelude.{◌≡◌, [], ◌∷◌, codes, decimal, OnOk};
+ghost use Rattle.dp_markup.specs.Outputs.{behind};
+ghost use Rattle.dp_markup.specs.Texts.{node_text};
 ghost use Rattle.dp_packet.specs.Messages as spec;
 ghost use Rattle.dp_packet.specs.Packets as packets;
+ghost use Rattle.dp_packet.specs.Parts.{child};
 
-use crate::Memory;
+use crate::attributes::Attribute;
+use crate::elements::{put_start, put_words};
 use crate::error_codes::message;
-use crate::parts::{alone, child, put_number, text_nodes};
-use dp_markup::Node;
-use std::alloc::Global;
+use dp_markup::{Output, put_close};
 
 /// Why a proxy refused, empty where the number is none of its reasons.
 pub fn reason(id: u8) -> &'static [u8]
@@ -23,30 +25,31 @@ pub fn reason(id: u8) -> &'static [u8]
     }
 }
 
-/// The element `message` with this text.
-fn message_node(alloc: Global, text: &[u8]) -> Result<Node, Memory>
-    ensures { IfOk result (λ n. n ≡ packets.message_node text.now) }
+/// Puts the element of an error, or of a refusal, which has a number and a message.
+fn put_reported<O: Output>(
+    out: &mut O,
+    name: &[u8],
+    number: u64,
+    text: &[u8],
+) -> Result<(), O::Error>
+    ensures { OnOk result (O.seen out.new ≡ behind (O.seen out.old)
+        (node_text (child (codes "error") ((name.now, decimal number) ∷ []) (packets.message_node text.now ∷ [])))) }
 {
-    let nodes = text_nodes(alloc, text)?;
-    child(alloc, b"message", Vec::new(alloc), nodes)
+    put_start(out, b"error", &[Attribute::Number(name, number)])?;
+    put_words(out, b"message", text)?;
+    put_close(out, b"error")
 }
 
-/// The element of an error.
-pub(crate) fn error_node(alloc: Global, code: u16) -> Result<Node, Memory>
-    ensures { IfOk result (λ n. n ≡ packets.error_node code) }
+/// Puts the element of an error.
+pub(crate) fn put_error<O: Output>(out: &mut O, code: u16) -> Result<(), O::Error>
+    ensures { OnOk result (O.seen out.new ≡ behind (O.seen out.old) (node_text (packets.error_node code))) }
 {
-    let mut attributes = Vec::new(alloc);
-    put_number(alloc, &mut attributes, b"code", code as u64)?;
-    let nodes = alone(alloc, message_node(alloc, message(code))?)?;
-    child(alloc, b"error", attributes, nodes)
+    put_reported(out, b"code", code as u64, message(code))
 }
 
-/// The element of a proxy's refusal.
-pub(crate) fn refusal_node(alloc: Global, id: u8) -> Result<Node, Memory>
-    ensures { IfOk result (λ n. n ≡ packets.refusal_node id) }
+/// Puts the element of a proxy's refusal.
+pub(crate) fn put_refusal<O: Output>(out: &mut O, id: u8) -> Result<(), O::Error>
+    ensures { OnOk result (O.seen out.new ≡ behind (O.seen out.old) (node_text (packets.refusal_node id))) }
 {
-    let mut attributes = Vec::new(alloc);
-    put_number(alloc, &mut attributes, b"id", id as u64)?;
-    let nodes = alone(alloc, message_node(alloc, reason(id))?)?;
-    child(alloc, b"error", attributes, nodes)
+    put_reported(out, b"id", id as u64, reason(id))
 }

@@ -13,6 +13,22 @@ pub struct Property {
     pub shape: Shape,
 }
 
+/// What the start tag of a property tells of its value: the type, and what goes with it.
+#[derive(Clone, Copy, Debug)]
+pub enum ValueKind {
+    Null,
+    Bool,
+    Int,
+    /// The length of the whole text in bytes.
+    Text(u64),
+    /// The number of all entries, and which page of `pagesize` entries is shown, counted from 0.
+    Array {
+        count: u64,
+        page: u64,
+        pagesize: u64,
+    },
+}
+
 /// The value of a property, as far as it is shown.
 #[cycle(property)]
 #[derive(Debug, Drop)]

@@ -1,98 +1,97 @@
-//! The elements of responses.
-ghost use Rattle.std.specs.Prelude.{◌≡◌, map, IfOk};
+//! The texts of responses.
+
+ghost use Rattle.std.specs.Prelude.{◌≡◌, map, OnOk};
+ghost use Rattle.dp_markup.specs.Outputs.{behind};
+ghost use Rattle.dp_markup.specs.Texts.{node_text, nodes_text, written};
 ghost use Rattle.dp_packet.specs.Packets as spec;
 
-use crate::Memory;
-use crate::breakpoints::breakpoint_nodes;
-use crate::faults::error_node;
+use crate::attributes::{Attribute, NAMESPACE};
+use crate::breakpoints::put_breakpoints;
+use crate::elements::{put_leaf, put_start};
+use crate::faults::put_error;
+use crate::outputs::PacketOutput;
 use crate::packet::{Body, Response, StackLine};
-use crate::parts::{
-    alone, child, element, put_all, put_attribute, put_namespace, put_number, text_nodes,
-};
-use crate::properties::property_nodes;
-use dp_markup::{Element, Node};
+use crate::properties::put_properties;
+use dp_markup::{Output, put_close, put_escaped};
 use dp_value::Bytes;
-use std::alloc::Global;
 
-/// The element of a frame of the stack.
-fn stack_of(alloc: Global, line: &StackLine) -> Result<Node, Memory>
-    ensures { IfOk result (λ n. n ≡ spec.stack_node line.now) }
+/// Puts the element of a frame of the stack.
+fn put_stack<O: Output>(out: &mut O, line: &StackLine) -> Result<(), O::Error>
+    ensures { OnOk result (O.seen out.new ≡ behind (O.seen out.old) (node_text (spec.stack_node line.now))) }
 {
-    let mut attributes = Vec::new(alloc);
-    put_number(alloc, &mut attributes, b"level", line.level as u64)?;
-    put_attribute(alloc, &mut attributes, b"type", b"file")?;
-    put_attribute(alloc, &mut attributes, b"filename", line.uri.as_slice())?;
-    put_number(alloc, &mut attributes, b"lineno", line.line as u64)?;
-    put_attribute(alloc, &mut attributes, b"where", line.place.as_slice())?;
-    child(alloc, b"stack", attributes, Vec::new(alloc))
+    let attributes = [
+        Attribute::Number(b"level", line.level as u64),
+        Attribute::Text(b"type", b"file"),
+        Attribute::Value(b"filename", &line.uri),
+        Attribute::Number(b"lineno", line.line as u64),
+        Attribute::Value(b"where", &line.place),
+    ];
+    put_leaf(out, b"stack", &attributes)
 }
 
-/// The elements of frames of the stack.
-fn stack_nodes(alloc: Global, lines: &[StackLine]) -> Result<Vec<Node>, Memory>
-    ensures { IfOk result (λ nodes. nodes.items ≡ map spec.stack_node lines.now) }
+/// Puts the elements of frames of the stack.
+fn put_stacks<O: Output>(out: &mut O, lines: &[StackLine]) -> Result<(), O::Error>
+    ensures { OnOk result (O.seen out.new ≡ behind (O.seen out.old) (nodes_text (map spec.stack_node lines.now))) }
 {
-    let mut nodes = Vec::new(alloc);
     for line in lines {
-        nodes.push(stack_of(alloc, line)?)?;
+        put_stack(out, line)?;
     }
-    Ok(nodes)
+    Ok(())
 }
 
-/// The element of a context, which has a name and an id.
-fn context_of(alloc: Global, name: &Bytes, id: u32) -> Result<Node, Memory>
-    ensures { IfOk result (λ n. n ≡ spec.context_node (name.now, id)) }
+/// Puts the element of a context, which has a name and an id.
+fn put_context<O: Output>(out: &mut O, name: &Bytes, id: u32) -> Result<(), O::Error>
+    ensures { OnOk result (O.seen out.new ≡ behind (O.seen out.old) (node_text (spec.context_node (name.now, id)))) }
 {
-    let mut attributes = Vec::new(alloc);
-    put_attribute(alloc, &mut attributes, b"name", name.as_slice())?;
-    put_number(alloc, &mut attributes, b"id", id as u64)?;
-    child(alloc, b"context", attributes, Vec::new(alloc))
+    let attributes = [
+        Attribute::Value(b"name", name),
+        Attribute::Number(b"id", id as u64),
+    ];
+    put_leaf(out, b"context", &attributes)
 }
 
-/// The elements of contexts.
-fn context_nodes(alloc: Global, contexts: &[(Bytes, u32)]) -> Result<Vec<Node>, Memory>
-    ensures { IfOk result (λ nodes. nodes.items ≡ map spec.context_node contexts.now) }
+/// Puts the elements of contexts.
+fn put_contexts<O: Output>(out: &mut O, contexts: &[(Bytes, u32)]) -> Result<(), O::Error>
+    ensures { OnOk result (O.seen out.new ≡ behind (O.seen out.old) (nodes_text (map spec.context_node contexts.now))) }
 {
-    let mut nodes = Vec::new(alloc);
     for context in contexts {
-        nodes.push(context_of(alloc, &context.0, context.1)?)?;
+        put_context(out, &context.0, context.1)?;
     }
-    Ok(nodes)
+    Ok(())
 }
 
-/// What a body puts between the tags of its response.
-fn body_nodes(alloc: Global, body: &Body) -> Result<Vec<Node>, Memory>
-    ensures { IfOk result (λ nodes. nodes.items ≡ spec.body_nodes body.now) }
+/// Puts what a body has between the tags of its response.
+#[tactic(auto, using(crate::proofs::OutLaws::alone_text, crate::proofs::OutLaws::words_text))]
+fn put_body<O: PacketOutput>(out: &mut O, body: &Body) -> Result<(), O::Error>
+    ensures { OnOk result (O.Output.seen out.new ≡ behind (O.Output.seen out.old)
+        (nodes_text (spec.body_nodes body.now))) }
 {
     match body {
-        Body::Nothing => Ok(Vec::new(alloc)),
-        Body::Plain(text) => text_nodes(alloc, text.as_slice()),
-        Body::Fault(code) => alone(alloc, error_node(alloc, *code)?),
-        Body::Stacks(lines) => stack_nodes(alloc, lines.as_slice()),
-        Body::Contexts(contexts) => context_nodes(alloc, contexts.as_slice()),
-        Body::Properties(properties) => property_nodes(alloc, properties.as_slice()),
-        Body::Breakpoints(lines) => breakpoint_nodes(alloc, lines.as_slice()),
+        Body::Nothing => Ok(()),
+        Body::Plain(text) => put_escaped(out, text.as_slice()),
+        Body::Fault(code) => put_error(out, *code),
+        Body::Stacks(lines) => put_stacks(out, lines.as_slice()),
+        Body::Contexts(contexts) => put_contexts(out, contexts.as_slice()),
+        Body::Properties(properties) => put_properties(out, properties.as_slice()),
+        Body::Breakpoints(lines) => put_breakpoints(out, lines.as_slice()),
     }
 }
 
-/// The element of a response.
-pub(crate) fn response_element(alloc: Global, response: &Response) -> Result<Element, Memory>
-    ensures { IfOk result (λ e. e ≡ spec.response_element response.now) }
+/// Puts the element of a response.
+pub(crate) fn put_response<O: PacketOutput>(
+    out: &mut O,
+    response: &Response,
+) -> Result<(), O::Error>
+    ensures { OnOk result (O.Output.seen out.new ≡ behind (O.Output.seen out.old)
+        (written (spec.response_element response.now))) }
 {
-    let mut attributes = Vec::new(alloc);
-    put_namespace(alloc, &mut attributes)?;
-    put_attribute(
-        alloc,
-        &mut attributes,
-        b"command",
-        response.command.as_slice(),
-    )?;
-    put_attribute(
-        alloc,
-        &mut attributes,
-        b"transaction_id",
-        response.id.as_slice(),
-    )?;
-    put_all(alloc, &mut attributes, response.attributes.as_slice())?;
-    let nodes = body_nodes(alloc, &response.body)?;
-    element(alloc, b"response", attributes, nodes)
+    let attributes = [
+        NAMESPACE,
+        Attribute::Value(b"command", &response.command),
+        Attribute::Value(b"transaction_id", &response.id),
+        Attribute::Pairs(response.attributes.as_slice()),
+    ];
+    put_start(out, b"response", &attributes)?;
+    put_body(out, &response.body)?;
+    put_close(out, b"response")
 }

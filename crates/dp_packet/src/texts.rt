@@ -1,17 +1,22 @@
 //! The texts of packets.
-ghost use Rattle.std.specs.Prelude.{◌≡◌, ◌↔◌, true, IfOk};
+
+ghost use Rattle.std.specs.Prelude.{◌≡◌, ◌↔◌, true, IfOk, OnOk};
+ghost use Rattle.dp_markup.specs.Outputs.{behind};
+ghost use Rattle.dp_markup.specs.Texts.{nodes_text, written};
 ghost use Rattle.dp_packet.specs.Packets as spec;
+ghost use Rattle.dp_packet.specs.declared.packet.ProxyReply.TheVariants.{Refused, Started, Stopped};
 ghost use Rattle.dp_packet.specs.Text.{text};
 
 use crate::Memory;
-use crate::breakpoints::breakpoint_of;
+use crate::attributes::{Attribute, NAMESPACE};
+use crate::breakpoints::put_breakpoint;
+use crate::elements::{put_empty, put_start};
 use crate::error_codes::message;
-use crate::faults::{reason, refusal_node};
+use crate::faults::{put_refusal, reason};
+use crate::outputs::PacketOutput;
 use crate::packet::{Body, BreakLine, Init, Notify, Packet, ProxyReply};
-use crate::parts::{alone, element, put_attribute, put_namespace, put_number};
-use crate::properties::base64_nodes;
-use crate::responses::response_element;
-use dp_markup::{Element, Node, write};
+use crate::responses::put_response;
+use dp_markup::{Output, TextOutput, put_close};
 use dp_value::Bytes;
 use std::alloc::Global;
 
@@ -30,54 +35,58 @@ pub fn has_message(packet: &Packet) -> bool
     }
 }
 
-/// The element of a session's first packet.
-fn init_element(alloc: Global, init: &Init) -> Result<Element, Memory>
-    ensures { IfOk result (λ e. e ≡ spec.init_element init.now) }
+/// Puts the element of a session's first packet.
+fn put_init<O: Output>(out: &mut O, init: &Init) -> Result<(), O::Error>
+    ensures { OnOk result (O.seen out.new ≡ behind (O.seen out.old) (written (spec.init_element init.now))) }
 {
-    let mut attributes = Vec::new(alloc);
-    put_namespace(alloc, &mut attributes)?;
-    put_attribute(alloc, &mut attributes, b"appid", b"dbgp")?;
-    put_attribute(alloc, &mut attributes, b"idekey", init.idekey.as_slice())?;
-    put_attribute(alloc, &mut attributes, b"session", b"")?;
-    put_attribute(alloc, &mut attributes, b"thread", b"1")?;
-    put_attribute(alloc, &mut attributes, b"parent", b"")?;
-    put_attribute(alloc, &mut attributes, b"language", b"PHP")?;
-    put_attribute(alloc, &mut attributes, b"protocol_version", b"1.0")?;
-    put_attribute(alloc, &mut attributes, b"fileuri", init.fileuri.as_slice())?;
-    element(alloc, b"init", attributes, Vec::new(alloc))
+    let attributes = [
+        NAMESPACE,
+        Attribute::Text(b"appid", b"dbgp"),
+        Attribute::Value(b"idekey", &init.idekey),
+        Attribute::Text(b"session", b""),
+        Attribute::Text(b"thread", b"1"),
+        Attribute::Text(b"parent", b""),
+        Attribute::Text(b"language", b"PHP"),
+        Attribute::Text(b"protocol_version", b"1.0"),
+        Attribute::Value(b"fileuri", &init.fileuri),
+    ];
+    put_empty(out, b"init", &attributes)
 }
 
-/// The element of the program's output, which stands in it in base64.
-fn stream_element(alloc: Global, bytes: &[u8]) -> Result<Element, Memory>
-    ensures { IfOk result (λ e. e ≡ spec.stream_element bytes.now) }
+/// Puts the element of the program's output, which stands in it in base64.
+fn put_stream<O: PacketOutput>(out: &mut O, bytes: &[u8]) -> Result<(), O::Error>
+    ensures { OnOk result (O.Output.seen out.new ≡ behind (O.Output.seen out.old)
+        (written (spec.stream_element bytes.now))) }
 {
-    let mut attributes = Vec::new(alloc);
-    put_namespace(alloc, &mut attributes)?;
-    put_attribute(alloc, &mut attributes, b"type", b"stdout")?;
-    put_attribute(alloc, &mut attributes, b"encoding", b"base64")?;
-    let nodes = base64_nodes(alloc, bytes)?;
-    element(alloc, b"stream", attributes, nodes)
+    let attributes = [
+        NAMESPACE,
+        Attribute::Text(b"type", b"stdout"),
+        Attribute::Text(b"encoding", b"base64"),
+    ];
+    put_start(out, b"stream", &attributes)?;
+    out.put_base64(bytes)?;
+    put_close(out, b"stream")
 }
 
-/// The element of the breakpoint that a notification tells of, and nothing where it tells of none.
-fn notified_nodes(alloc: Global, told: &Option<BreakLine>) -> Result<Vec<Node>, Memory>
-    ensures { IfOk result (λ nodes. nodes.items ≡ spec.notified_nodes told.now) }
+/// Puts the element of the breakpoint that a notification tells of, and nothing where it tells of none.
+#[tactic(auto, using(crate::proofs::OutLaws::alone_text))]
+fn put_notified<O: Output>(out: &mut O, told: &Option<BreakLine>) -> Result<(), O::Error>
+    ensures { OnOk result (O.seen out.new ≡ behind (O.seen out.old) (nodes_text (spec.notified_nodes told.now))) }
 {
     match told {
-        None => Ok(Vec::new(alloc)),
-        Some(line) => alone(alloc, breakpoint_of(alloc, line)?),
+        None => Ok(()),
+        Some(line) => put_breakpoint(out, line),
     }
 }
 
-/// The element of a notification.
-fn notify_element(alloc: Global, notify: &Notify) -> Result<Element, Memory>
-    ensures { IfOk result (λ e. e ≡ spec.notify_element notify.now) }
+/// Puts the element of a notification.
+fn put_notify<O: Output>(out: &mut O, notify: &Notify) -> Result<(), O::Error>
+    ensures { OnOk result (O.seen out.new ≡ behind (O.seen out.old) (written (spec.notify_element notify.now))) }
 {
-    let mut attributes = Vec::new(alloc);
-    put_namespace(alloc, &mut attributes)?;
-    put_attribute(alloc, &mut attributes, b"name", notify.name.as_slice())?;
-    let nodes = notified_nodes(alloc, &notify.breakpoint)?;
-    element(alloc, b"notify", attributes, nodes)
+    let attributes = [NAMESPACE, Attribute::Value(b"name", &notify.name)];
+    put_start(out, b"notify", &attributes)?;
+    put_notified(out, &notify.breakpoint)?;
+    put_close(out, b"notify")
 }
 
 /// The name of the element of a proxy's refusal: `proxystop` where it was asked to stop, else `proxyinit`.
@@ -87,43 +96,78 @@ pub(crate) fn refusal_name(stopping: bool) -> &'static [u8]
     if stopping { b"proxystop" } else { b"proxyinit" }
 }
 
-/// The element of a proxy's reply.
-fn proxy_element(alloc: Global, reply: &ProxyReply) -> Result<Element, Memory>
-    ensures { IfOk result (λ e. e ≡ spec.proxy_element reply.now) }
+/// Puts the element that tells that a key is held for the IDE at an address.
+fn put_started<'a, O: Output>(
+    out: &mut O,
+    key: &'a Bytes,
+    host: &'a Bytes,
+    port: u16,
+) -> Result<(), O::Error>
+    ensures { OnOk result (O.seen out.new ≡ behind (O.seen out.old)
+        (written (spec.proxy_element (Started key.now host.now port)))) }
 {
-    let mut attributes = Vec::new(alloc);
+    let attributes = [
+        Attribute::Text(b"success", b"1"),
+        Attribute::Value(b"idekey", key),
+        Attribute::Value(b"address", host),
+        Attribute::Number(b"port", port as u64),
+    ];
+    put_empty(out, b"proxyinit", &attributes)
+}
+
+/// Puts the element that tells that a key is no longer held.
+fn put_stopped<O: Output>(out: &mut O, key: &Bytes) -> Result<(), O::Error>
+    ensures { OnOk result (O.seen out.new ≡ behind (O.seen out.old) (written (spec.proxy_element (Stopped key.now)))) }
+{
+    let attributes = [
+        Attribute::Text(b"success", b"1"),
+        Attribute::Value(b"idekey", key),
+    ];
+    put_empty(out, b"proxystop", &attributes)
+}
+
+/// Puts the element that tells why a proxy refused.
+fn put_refused<O: Output>(out: &mut O, stopping: bool, id: u8) -> Result<(), O::Error>
+    ensures { OnOk result (O.seen out.new ≡ behind (O.seen out.old)
+        (written (spec.proxy_element (Refused stopping id)))) }
+{
+    let name = refusal_name(stopping);
+    put_start(out, name, &[Attribute::Text(b"success", b"0")])?;
+    put_refusal(out, id)?;
+    put_close(out, name)
+}
+
+/// Puts the element of a proxy's reply.
+fn put_reply<O: Output>(out: &mut O, reply: &ProxyReply) -> Result<(), O::Error>
+    ensures { OnOk result (O.seen out.new ≡ behind (O.seen out.old) (written (spec.proxy_element reply.now))) }
+{
     match reply {
-        ProxyReply::Started { key, host, port } => {
-            put_attribute(alloc, &mut attributes, b"success", b"1")?;
-            put_attribute(alloc, &mut attributes, b"idekey", key.as_slice())?;
-            put_attribute(alloc, &mut attributes, b"address", host.as_slice())?;
-            put_number(alloc, &mut attributes, b"port", *port as u64)?;
-            element(alloc, b"proxyinit", attributes, Vec::new(alloc))
-        }
-        ProxyReply::Stopped { key } => {
-            put_attribute(alloc, &mut attributes, b"success", b"1")?;
-            put_attribute(alloc, &mut attributes, b"idekey", key.as_slice())?;
-            element(alloc, b"proxystop", attributes, Vec::new(alloc))
-        }
-        ProxyReply::Refused { stopping, id } => {
-            put_attribute(alloc, &mut attributes, b"success", b"0")?;
-            let nodes = alone(alloc, refusal_node(alloc, *id)?)?;
-            element(alloc, refusal_name(*stopping), attributes, nodes)
-        }
+        ProxyReply::Started { key, host, port } => put_started(out, key, host, *port),
+        ProxyReply::Stopped { key } => put_stopped(out, key),
+        ProxyReply::Refused { stopping, id } => put_refused(out, *stopping, *id),
     }
 }
 
-/// The element of a packet.
-fn element_of(alloc: Global, packet: &Packet) -> Result<Element, Memory>
-    ensures { IfOk result (λ e. e ≡ spec.element_of packet.now) }
+/// Puts the element of a packet.
+fn put_element<O: PacketOutput>(out: &mut O, packet: &Packet) -> Result<(), O::Error>
+    ensures { OnOk result (O.Output.seen out.new ≡ behind (O.Output.seen out.old)
+        (written (spec.element_of packet.now))) }
 {
     match packet {
-        Packet::Init(init) => init_element(alloc, init),
-        Packet::Response(response) => response_element(alloc, response),
-        Packet::Stream(bytes) => stream_element(alloc, bytes.as_slice()),
-        Packet::Notify(notify) => notify_element(alloc, notify),
-        Packet::Proxy(reply) => proxy_element(alloc, reply),
+        Packet::Init(init) => put_init(out, init),
+        Packet::Response(response) => put_response(out, response),
+        Packet::Stream(bytes) => put_stream(out, bytes.as_slice()),
+        Packet::Notify(notify) => put_notify(out, notify),
+        Packet::Proxy(reply) => put_reply(out, reply),
     }
+}
+
+/// Puts the text of a packet: the declaration and its element.
+pub(crate) fn put_packet<O: PacketOutput>(out: &mut O, packet: &Packet) -> Result<(), O::Error>
+    ensures { OnOk result (O.Output.seen out.new ≡ behind (O.Output.seen out.old) (text packet.now)) }
+{
+    out.put(b"<?xml version=\"1.0\" encoding=\"iso-8859-1\"?>\n")?;
+    put_element(out, packet)
 }
 
 /// The text of a packet: the declaration and the canonical text of its element, without the frame.
@@ -132,9 +176,10 @@ pub fn text_of(alloc: Global, packet: &Packet) -> Result<Bytes, Memory>
     requires known { spec.HasMessage packet.now }
     ensures { IfOk result (λ bytes. bytes ≡ text packet.now) }
 {
-    let e = element_of(alloc, packet)?;
-    let markup = write(alloc, &e)?;
-    let mut bytes = Vec::from_slice(alloc, b"<?xml version=\"1.0\" encoding=\"iso-8859-1\"?>\n")?;
-    bytes.extend_from_slice(markup.as_slice())?;
-    Ok(Bytes::of(bytes))
+    let mut out = TextOutput {
+        alloc,
+        text: Vec::new(alloc),
+    };
+    put_packet(&mut out, packet)?;
+    Ok(Bytes::of(out.text))
 }

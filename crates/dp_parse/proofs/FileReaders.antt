@@ -16,16 +16,16 @@ use Rattle.dp_token_rules.specs.declared.terminal.Terminal.{Terminal}
 use Rattle.dp_token_rules.specs.declared.terminal.Terminal.TheVariants as terminal
 use Rattle.dp_tree.specs.declared.tree.Expression.{Expression}
 use Rattle.dp_tree.specs.declared.tree.Function.{Function}
-use Rattle.dp_token_rules.specs.Terminals.{terminal_of, is, is_superglobal, head}
+use Rattle.dp_token_rules.specs.Terminals.{terminal_of, reserved_terminal, is, is_superglobal, head}
 use Rattle.dp_token_rules.specs.inner.Input.{Outcome, Reader, and_then, gives, made, mark, refuse, until, next_of, ◌>>=◌, ◌>>◌, kind}
 use Rattle.dp_token_rules.specs.Rules.{Made, Mark, Perhaps}
 use Rattle.dp_token_rules.specs.inner.ListReaders.{any_items}
 use Rattle.dp_expressions.specs.Grammar.{IsExpression}
 use Rattle.dp_expressions.specs.inner.Readers.{reading}
 use Rattle.dp_parse.specs.Statements.{Depth, parameter_in, function_of, FunctionRule, no_parts, with_statement, with_function, Spells, SpellsExpression}
-use Rattle.dp_parse.specs.inner.StatementRules.{bodies, body_below, statement, function_rule, file_step, file, at_end, semicolon, expression_text}
-use Rattle.dp_token_rules.proofs.Terminals.{not_true, placed, mark_alone, mark_passes, mark_fails, mark_apart}
-use Rattle.dp_token_rules.proofs.Answers.{Rules, Anything, JoinedAt, EitherAt, GivesAt, OneAt, MarkAt, MadeAt, StepAt, Answers, Follows, StartsIn, Apart, give, given, mark_starts, joined_starts, made_starts, either_starts, nests_starts, starts_in_more, starts_apart, gives_apart, made_apart, gives_follow, one_starts, one_answers, gives_answers, joined_answers, made_answers, mark_answers, equal_answers, either_answers, refused_here, begun, either_answers_back, by_first, by_second}
+use Rattle.dp_parse.specs.inner.StatementRules.{on_its_line, bodies, body_below, statement, function_rule, constants_rule, file_step, file, at_end, semicolon, expression_text}
+use Rattle.dp_token_rules.proofs.Terminals.{not_true, placed, mark_alone, mark_passes, mark_fails, mark_apart, reserved_fails}
+use Rattle.dp_token_rules.proofs.Answers.{Rules, Anything, JoinedAt, EitherAt, GivesAt, OneAt, MarkAt, MadeAt, StepAt, Answers, Follows, StartsIn, Apart, give, given, mark_starts, joined_starts, made_starts, either_starts, nests_starts, starts_in_more, starts_apart, gives_apart, made_apart, either_apart, gives_follow, one_starts, one_answers, gives_answers, joined_answers, made_answers, mark_answers, equal_answers, either_answers, refused_here, begun, either_answers_back, by_first, by_second}
 use Rattle.dp_token_rules.proofs.More.{level_self}
 use Rattle.dp_token_rules.proofs.Loops.{step_stop, closed_answers}
 use Rattle.dp_token_rules.proofs.ListAnswers.{AnyItemsAt, AreItems, any_items_answers}
@@ -34,6 +34,7 @@ use Rattle.dp_parse.proofs.StatementParts.{AreRead, kind_reader, takes_else, bod
 use Rattle.dp_parse.proofs.StatementStarts.{begins_statement, LineAt, open_ends_other, statement_no_else, line_starts}
 use Rattle.dp_parse.proofs.StatementBodies.{BodiesAt, bodies_reader}
 use Rattle.dp_parse.proofs.StatementLevels.{body_reader, statement_answers}
+use Rattle.dp_parse.proofs.ConstantAnswers.{ConstantsLineAt, constants_line_starts, constants_answers}
 use Rattle.dp_token_rules.specs.TokenValues.{Text, unless, variable_in, name_in, by_kind}
 
 -- ---- parameters
@@ -115,7 +116,9 @@ token_no_end t = go t.kind
 
     go : (k : TokenKind) → is terminal.End (terminal_of k) ≡ false
     go (kind.Variable name) = of (is_superglobal name) terminal.Superglobal terminal.Variable refl refl
-    go (kind.Name name) = of (is_reserved name) terminal.Reserved terminal.Name refl refl
+    go (kind.Name name) =
+        of (is_reserved name) (reserved_terminal name) terminal.Name (reserved_fails (is terminal.End) name refl refl)
+        refl
     go _ = refl
 
 -- behind the end nothing is left
@@ -196,8 +199,15 @@ module _ (ends place_ends : Terminal → Bool) (known : AreRead ends place_ends)
   abbrev StatementOf : Parts → Rules Depth Parts
   StatementOf parts = MadeAt (LineAt 0) (with_statement parts)
 
+  abbrev ConstantsOf : Parts → Rules Depth Parts
+  ConstantsOf parts = MadeAt ConstantsLineAt (with_statement parts)
+
+  -- a part that is no function
+  abbrev OtherPart : Parts → Rules Depth Parts
+  OtherPart parts = EitherAt (ConstantsOf parts) (StatementOf parts)
+
   abbrev PartAt : Parts → Rules Depth Parts
-  PartAt parts = EitherAt (FunctionOf parts) (StatementOf parts)
+  PartAt parts = EitherAt (FunctionOf parts) (OtherPart parts)
 
   abbrev EndAt : Parts → Rules Depth Parts
   EndAt parts = GivesAt parts
@@ -212,19 +222,41 @@ module _ (ends place_ends : Terminal → Bool) (known : AreRead ends place_ends)
   statement_of_starts parts =
       made_starts (LineAt 0) (with_statement parts) begins_statement (line_starts ends place_ends known 0)
 
+  constants_of_starts : (parts : Parts) → StartsIn (ConstantsOf parts) (is terminal.Const)
+  constants_of_starts parts =
+      made_starts ConstantsLineAt (with_statement parts) (is terminal.Const) constants_line_starts
+
+  -- a test that `function` and `const` pass, and what begins a statement
+  part_begins : (parts : Parts) (test : Terminal → Bool) → test terminal.Function ≡ true → test terminal.Const ≡ true
+      → ((s : Terminal) → begins_statement s ≡ true → test s ≡ true) → StartsIn (PartAt parts) test
+  part_begins parts test functions constants statements =
+      either_starts (FunctionOf parts) (OtherPart parts) test
+      (starts_in_more (FunctionOf parts) (is terminal.Function) test (mark_passes test terminal.Function functions)
+      (function_of_starts parts))
+      (either_starts (ConstantsOf parts) (StatementOf parts) test
+      (starts_in_more (ConstantsOf parts) (is terminal.Const) test (mark_passes test terminal.Const constants)
+      (constants_of_starts parts))
+      (starts_in_more (StatementOf parts) begins_statement test statements (statement_of_starts parts)))
+
   part_starts : (parts : Parts) → StartsIn (PartAt parts) (between_parts parts)
-  part_starts parts = either_starts (FunctionOf parts) (StatementOf parts) (between_parts parts)
-      (starts_in_more (FunctionOf parts) (is terminal.Function) (between_parts parts)
-      (mark_passes (between_parts parts) terminal.Function refl) (function_of_starts parts))
-      (starts_in_more (StatementOf parts) begins_statement (between_parts parts) (λ s e. ap not (statement_no_else s e))
-      (statement_of_starts parts))
+  part_starts parts = part_begins parts (between_parts parts) refl refl (λ s e. ap not (statement_no_else s e))
 
   part_no_end : (parts : Parts) → StartsIn (PartAt parts) (λ s. not (is terminal.End s))
-  part_no_end parts = either_starts (FunctionOf parts) (StatementOf parts) (λ s. not (is terminal.End s))
-      (starts_in_more (FunctionOf parts) (is terminal.Function) (λ s. not (is terminal.End s))
-      (mark_passes (λ s. not (is terminal.End s)) terminal.Function refl) (function_of_starts parts))
-      (starts_in_more (StatementOf parts) begins_statement (λ s. not (is terminal.End s))
-      (λ s e. ap not (mark_apart begins_statement terminal.End refl s e)) (statement_of_starts parts))
+  part_no_end parts = part_begins parts (λ s. not (is terminal.End s)) refl refl
+      (λ s e. ap not (mark_apart begins_statement terminal.End refl s e))
+
+  no_const : (parts : Parts) → Apart (StatementOf parts) between_parts (is terminal.Const)
+  no_const parts =
+      starts_apart (StatementOf parts) between_parts (is terminal.Const) begins_statement
+      (mark_apart begins_statement terminal.Const refl) (statement_of_starts parts)
+
+  no_function : (parts : Parts) → Apart (OtherPart parts) between_parts (is terminal.Function)
+  no_function parts =
+      either_apart (ConstantsOf parts) (StatementOf parts) between_parts (is terminal.Function)
+      (starts_apart (ConstantsOf parts) between_parts (is terminal.Function) (is terminal.Const)
+      (mark_fails (is terminal.Function) terminal.Const refl) (constants_of_starts parts))
+      (starts_apart (StatementOf parts) between_parts (is terminal.Function) begins_statement
+      (mark_apart begins_statement terminal.Function refl) (statement_of_starts parts))
 
   end_follows : Follows between_parts EndAt end_stop
   end_follows =
@@ -243,55 +275,74 @@ module _ (ends place_ends : Terminal → Bool) (known : AreRead ends place_ends)
     abbrev read_statement : Parts → Reader Parts
     read_statement parts = made (statement depth.expressions depth.bodies 0) (with_statement parts)
 
+    abbrev read_constants : Parts → Reader Parts
+    read_constants parts =
+        made (on_its_line (constants_rule (reading depth.expressions part.Whole))) (with_statement parts)
+
     function_part : (parts : Parts) (ts : List Token) → is terminal.Function (head ts) ≡ true
         → Answers Deeper (PartAt parts) between_parts depth ts (read_function parts ts)
     function_part parts ts here =
-        by_first Deeper same_depth (FunctionOf parts) (StatementOf parts) (is terminal.Function) between_parts depth ts
-        (function_of_starts parts)
-        (starts_apart (StatementOf parts) between_parts (is terminal.Function) begins_statement
-        (mark_apart begins_statement terminal.Function refl) (statement_of_starts parts)) here
-        (read_function parts ts)
+        by_first Deeper same_depth (FunctionOf parts) (OtherPart parts) (is terminal.Function) between_parts depth ts
+        (function_of_starts parts) (no_function parts) here (read_function parts ts)
         (made_answers Deeper same_depth FunctionRule (with_function parts) Anything between_parts depth ts
         (λ f s e. refl) (function_rule depth ts) (function_answers depth ts here))
 
-    statement_part : (parts : Parts) (ts : List Token) → is terminal.Function (head ts) ≡ false
-        → Answers Deeper (PartAt parts) between_parts depth ts (read_statement parts ts)
+    other_part : (parts : Parts) (ts : List Token) → is terminal.Function (head ts) ≡ false → (o : Outcome Parts)
+        → Answers Deeper (OtherPart parts) between_parts depth ts o
+        → Answers Deeper (PartAt parts) between_parts depth ts o
+    other_part parts ts none =
+        by_second Deeper same_depth (FunctionOf parts) (OtherPart parts) (is terminal.Function) between_parts depth ts
+        (function_of_starts parts) (no_function parts) none
+
+    constants_part : (parts : Parts) (ts : List Token) → is terminal.Const (head ts) ≡ true
+        → Answers Deeper (OtherPart parts) between_parts depth ts (read_constants parts ts)
+    constants_part parts ts here =
+        by_first Deeper same_depth (ConstantsOf parts) (StatementOf parts) (is terminal.Const) between_parts depth ts
+        (constants_of_starts parts) (no_const parts) here (read_constants parts ts)
+        (made_answers Deeper same_depth ConstantsLineAt (with_statement parts) Anything between_parts depth ts
+        (λ b s e. refl) (on_its_line (constants_rule (reading depth.expressions part.Whole)) ts)
+        (constants_answers ends place_ends known depth ts))
+
+    statement_part : (parts : Parts) (ts : List Token) → is terminal.Const (head ts) ≡ false
+        → Answers Deeper (OtherPart parts) between_parts depth ts (read_statement parts ts)
     statement_part parts ts none =
-        by_second Deeper same_depth (FunctionOf parts) (StatementOf parts) (is terminal.Function) between_parts depth ts
-        (function_of_starts parts)
-        (starts_apart (StatementOf parts) between_parts (is terminal.Function) begins_statement
-        (mark_apart begins_statement terminal.Function refl) (statement_of_starts parts)) none
-        (read_statement parts ts)
+        by_second Deeper same_depth (ConstantsOf parts) (StatementOf parts) (is terminal.Const) between_parts depth ts
+        (constants_of_starts parts) (no_const parts) none (read_statement parts ts)
         (made_answers Deeper same_depth (LineAt 0) (with_statement parts) body_stop between_parts depth ts
         (λ b s e. open_ends_other b.is_open s (not_true (takes_else s) e))
         (statement depth.expressions depth.bodies 0 ts)
         (statement_answers ends place_ends known depth 0 ts))
 
-    abbrev function_step : Parts → Reader (ControlFlow Parts Parts)
-    function_step parts = made (read_function parts) Continue
-
-    abbrev statement_step : Parts → Reader (ControlFlow Parts Parts)
-    statement_step parts = made (read_statement parts) Continue
-
     abbrev next_part : Parts → Reader (ControlFlow Parts Parts)
-    next_part parts ts = cond (is terminal.Function (head ts)) (function_step parts ts) (statement_step parts ts)
+    next_part parts ts =
+        cond (is terminal.Function (head ts)) (made (read_function parts) Continue ts)
+        (cond (is terminal.Const (head ts)) (made (read_constants parts) Continue ts)
+        (made (read_statement parts) Continue ts))
 
     next_part_answers : (parts : Parts) (ts : List Token)
         → Answers Deeper (MadeAt (PartAt parts) Continue) (step_stop between_parts end_stop) depth ts
         (next_part parts ts)
-    next_part_answers parts ts = go (is terminal.Function (head ts)) refl
+    next_part_answers parts ts = go (is terminal.Function (head ts)) (is terminal.Const (head ts)) refl refl
       where
-        go : (b : Bool) → is terminal.Function (head ts) ≡ b
-            → Answers Deeper (MadeAt (PartAt parts) Continue) (step_stop between_parts end_stop) depth ts
-            (cond b (function_step parts ts) (statement_step parts ts))
-        go true here =
+        continued : (o : Outcome Parts) → Answers Deeper (PartAt parts) between_parts depth ts o
+            → Answers {A = ControlFlow Parts Parts} Deeper (MadeAt (PartAt parts) Continue)
+            (step_stop between_parts end_stop) depth ts (and_then o (λ p. gives (Continue p)))
+        continued o reads =
             made_answers Deeper same_depth (PartAt parts) Continue between_parts
-            (step_stop between_parts end_stop) depth ts (λ x s e. e) (read_function parts ts)
-            (function_part parts ts here)
-        go false none =
-            made_answers Deeper same_depth (PartAt parts) Continue between_parts
-            (step_stop between_parts end_stop) depth ts (λ x s e. e) (read_statement parts ts)
-            (statement_part parts ts none)
+            (step_stop between_parts end_stop) depth ts (λ x s e. e) o reads
+
+        go : (f c : Bool) → is terminal.Function (head ts) ≡ f → is terminal.Const (head ts) ≡ c
+            → Answers {A = ControlFlow Parts Parts} Deeper (MadeAt (PartAt parts) Continue)
+            (step_stop between_parts end_stop) depth ts
+            (cond f (made (read_function parts) Continue ts)
+            (cond c (made (read_constants parts) Continue ts) (made (read_statement parts) Continue ts)))
+        go true c here other = continued (read_function parts ts) (function_part parts ts here)
+        go false true none here =
+            continued (read_constants parts ts)
+            (other_part parts ts none (read_constants parts ts) (constants_part parts ts here))
+        go false false none other =
+            continued (read_statement parts ts)
+            (other_part parts ts none (read_statement parts ts) (statement_part parts ts other))
 
     file_steps : (parts : Parts) (ts : List Token)
         → Answers Deeper (StepAt PartAt EndAt parts) (step_stop between_parts end_stop) depth ts
@@ -347,18 +398,25 @@ file_ends depth (suc count) parts ts x found =
         → is terminal.End (head ts) ≡ b
         → and_then (cond b (Ok (Break parts, ts)) (cond (is terminal.Function (head ts))
         (made (made (function_rule depth) (with_function parts)) Continue ts)
-        (made (made (statement depth.expressions depth.bodies 0) (with_statement parts)) Continue ts)))
+        (cond (is terminal.Const (head ts))
+        (made (made (on_its_line (constants_rule (reading depth.expressions part.Whole))) (with_statement parts))
+        Continue ts)
+        (made (made (statement depth.expressions depth.bodies 0) (with_statement parts)) Continue ts))))
         (next_of (until (file_step depth) count)) ≡ Ok x → x.1 ≡ []
     step again true end found =
         let v : Parts × List Token = (parts, ts) in let same : v ≡ x = cc in ap (λ p. p.1) (sym same)
         ∙ ends_empty ts end
-    step again false end found = go (is terminal.Function (head ts)) found
+    step again false end found = go (is terminal.Function (head ts)) (is terminal.Const (head ts)) found
       where
-        go : (b : Bool) → and_then (cond b (made (made (function_rule depth) (with_function parts)) Continue ts)
-            (made (made (statement depth.expressions depth.bodies 0) (with_statement parts)) Continue ts))
+        go : (f c : Bool) → and_then (cond f (made (made (function_rule depth) (with_function parts)) Continue ts)
+            (cond c (made (made (on_its_line (constants_rule (reading depth.expressions part.Whole)))
+            (with_statement parts)) Continue ts)
+            (made (made (statement depth.expressions depth.bodies 0) (with_statement parts)) Continue ts)))
             (next_of (until (file_step depth) count)) ≡ Ok x → x.1 ≡ []
-        go true found = function again (function_rule depth ts) found
-        go false found = statements again (statement depth.expressions depth.bodies 0 ts) found
+        go true c found = function again (function_rule depth ts) found
+        go false true found =
+            statements again (on_its_line (constants_rule (reading depth.expressions part.Whole)) ts) found
+        go false false found = statements again (statement depth.expressions depth.bodies 0 ts) found
 
 pub file_leaves_none : (depth : Depth) (ts : List Token) (parts : Parts) (r : List Token)
     → file depth ts ≡ Ok (parts, r) → r ≡ []

@@ -6,6 +6,10 @@ pub mod StatementParts
 pub mod StatementStarts
 pub mod StatementBodies
 pub mod StatementLevels
+pub mod FixedTexts
+pub mod FixedRules
+pub mod FixedAnswers
+pub mod ConstantAnswers
 pub mod FileReaders
 pub mod FileVerdicts
 pub mod Judged

@@ -1,23 +1,27 @@
 -- The grammar of statements (PHP manual, "Control Structures" and "Functions"; what is left out is
 -- our own).
-use Rattle.std.specs.Prelude.{ℕ, zero, suc, Bool, true, false, not, nat_lt, if◌then◌else◌, List, [], ◌∷◌, ◌++◌, Option, Some, None}
+use Rattle.std.specs.Prelude.{◌≡◌, ℕ, zero, suc, Bool, true, false, not, ◌&&◌, ◌||◌, nat_lt, if◌then◌else◌, List, [], ◌∷◌, ◌++◌, Option, Some, None}
 use Rattle.std.specs.List.{list_any}
 use Rattle.std.specs.Str.{bytes_eq}
+use Rattle.dp_lexer.specs.declared.token.Token.{Token}
 use Rattle.dp_lexer.specs.declared.token.TokenKind.{TokenKind}
 use Rattle.dp_lexer.specs.declared.token.TokenKind.TheVariants as kind
 use Rattle.dp_parse.specs.declared.ended.Ended.{Ended}
 use Rattle.dp_parse.specs.declared.ended.Body.{Body}
 use Rattle.dp_parse.specs.declared.ended.Parts.{Parts}
+use Rattle.dp_token_rules.specs.declared.terminal.Terminal.{Terminal}
 use Rattle.dp_token_rules.specs.declared.terminal.Terminal.TheVariants as terminal
+use Rattle.dp_token_rules.specs.Terminals.{is, terminal_of}
 use Rattle.dp_tree.specs.declared.tree.Arm.{Arm}
 use Rattle.dp_tree.specs.declared.tree.Binding.{Binding}
+use Rattle.dp_tree.specs.declared.tree.Definition.{Definition}
 use Rattle.dp_tree.specs.declared.tree.Expression.{Expression}
 use Rattle.dp_tree.specs.declared.tree.Function.{Function}
 use Rattle.dp_tree.specs.declared.tree.Place.{Place}
 use Rattle.dp_tree.specs.declared.tree.Statement.{Statement}
 use Rattle.dp_tree.specs.declared.tree.StatementKind.{StatementKind}
 use Rattle.dp_tree.specs.declared.tree.StatementKind.TheVariants as tree
-use Rattle.dp_token_rules.specs.Rules.{Rule, ◌>>=◌, ◌>>◌, ◌or◌, Gives, Made, Mark, When, Nests, Without, OnLine, Closed, Perhaps}
+use Rattle.dp_token_rules.specs.Rules.{Rule, ◌>>=◌, ◌>>◌, ◌or◌, Gives, Made, Mark, When, Nests, Without, OnLine, Closed, Many, Perhaps}
 use Rattle.dp_token_rules.specs.Lists.{PlainItems, SomeItems, AnyPlainItems, AnyItems}
 use Rattle.dp_expressions.specs.Grammar.{IsExpression, IsPlace}
 use Rattle.dp_token_rules.specs.TokenValues.{Text, Variable, Kind, variable_in, name_in, number_up_to}
@@ -285,11 +289,76 @@ with_statement parts b =
 abbrev pub with_function : Parts → Function → Parts
 with_function parts f = record { body = parts.body; functions = parts.functions ++ f ∷ [] }
 
--- file = *( function | stmt )
+-- a token of a variable, of `++` or `--`, which want one, of an `isset` or an include; and `;`,
+-- which stands in no expression
+abbrev pub is_loose : Terminal → Bool
+is_loose terminal.Variable = true
+is_loose terminal.Superglobal = true
+is_loose terminal.Isset = true
+is_loose terminal.Include = true
+is_loose terminal.Require = true
+is_loose terminal.Increment = true
+is_loose terminal.Decrement = true
+is_loose terminal.Semicolon = true
+is_loose _ = false
+
+-- such a token, or, behind a name, the parenthesis of a call
+abbrev pub breaks : Bool → Terminal → Bool
+breaks named s = is_loose s || (is terminal.OpenParenthesis s && named)
+
+-- No variable, `isset`, include, call or `;` stands among these tokens, which stand behind a name
+-- or not.
+abbrev pub is_fixed : Bool → List Token → Bool
+is_fixed named [] = true
+is_fixed named (t ∷ ts) =
+    not (breaks named (terminal_of t.kind)) && is_fixed (is terminal.Name (terminal_of t.kind)) ts
+
+-- the rule, where its tokens are such
+pub record Fixed {A : Type 0} (rule : Rule A) (text : List Token) (a : A) : Type 0 where
+  pub fixed : is_fixed false text ≡ true
+  pub spelled : rule text a
+
+abbrev pub defined_as : Text → Expression → Definition
+defined_as name value = record { name = name; value = value }
+
+-- name "=" expr
+abbrev pub DefinitionRule : Rule Expression → Rule Definition
+DefinitionRule expression = do
+  name ← Kind name_in
+  Mark terminal.Assign
+  value ← expression
+  Gives (defined_as name value)
+
+-- "," name "=" expr
+abbrev pub NextDefinition : Rule Expression → Rule Definition
+NextDefinition expression = Mark terminal.Comma >> DefinitionRule expression
+
+-- "const" name "=" expr *( "," name "=" expr )
+abbrev pub Definitions : Rule Expression → Rule (List Definition)
+Definitions expression = do
+  Mark terminal.Const
+  first ← DefinitionRule expression
+  more ← Many (NextDefinition expression)
+  Gives (first ∷ more)
+
+-- const = "const" name "=" cexpr *( "," name "=" cexpr ) ";", where a cexpr is an expr in which no
+-- variable, `isset`, include or call stands. In the rest of a const none can stand, and in an
+-- expression no `;`.
+abbrev pub ConstantsRule : Rule Expression → Rule Ended
+ConstantsRule expression = do
+  all ← Fixed (Definitions expression)
+  Mark terminal.Semicolon
+  Gives (whole (tree.Constants all))
+
+abbrev pub IsConstants : Depth → Rule Body
+IsConstants depth = OnItsLine (ConstantsRule (IsExpression depth.expressions))
+
+-- file = *( function | const | stmt )
 abbrev pub Spells : Depth → Rule Parts
 Spells depth =
     Closed (λ parts.
     Made (FunctionRule depth) (with_function parts)
+    or Made (IsConstants depth) (with_statement parts)
     or Made (IsStatement depth) (with_statement parts))
     (λ parts. Gives parts) no_parts
 

@@ -7,6 +7,7 @@ ghost use Rattle.dp_parse.specs.inner.Within as limited;
 ghost use Rattle.dp_parse.specs.inner.StatementRules as spec;
 ghost use Rattle.dp_parse.specs.Statements as grammar;
 
+use crate::constants::constants;
 use crate::ended::{Body, Parts, with_body};
 use crate::inside::Called;
 use crate::levels::{BODY_LEVELS, expression};
@@ -85,7 +86,7 @@ fn with_function(parts: Parts, function: Function) -> Result<Parts, Memory>
     })
 }
 
-/// The parts of a file with the next function or statement, or the end where no token is left.
+/// The parts of a file with the next function, `const` or statement, or the end where no token is left.
 fn file_step(
     alloc: Global,
     tokens: &mut Tokens<'_>,
@@ -99,6 +100,10 @@ fn file_step(
     if tokens.sees(Terminal::Function) {
         let function = function(alloc, tokens)?;
         return Ok(ControlFlow::Continue(with_function(parts, function)?));
+    }
+    if tokens.sees(Terminal::Const) {
+        let body = constants(alloc, tokens)?;
+        return Ok(ControlFlow::Continue(with_statement(parts, body)?));
     }
     let body = outermost(alloc, tokens)?;
     Ok(ControlFlow::Continue(with_statement(parts, body)?))

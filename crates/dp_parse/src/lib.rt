@@ -4,6 +4,7 @@
 #![tactic(auto)]
 
 mod branches;
+mod constants;
 mod ended;
 mod errors;
 mod files;
@@ -20,8 +21,8 @@ mod verdicts;
 mod whole;
 
 pub use dp_tree::{
-    Arm, Binding, Boxed, Expression, File, Function, Inclusion, Item, Link, Operator, Order, Place,
-    Statement, StatementKind, builtin_of, has_code, is_pure,
+    Arm, Binding, Boxed, Definition, Expression, File, Function, Inclusion, Item, Link, Operator,
+    Order, Place, Statement, StatementKind, builtin_of, has_code, is_pure,
 };
 pub use ended::{Body, Ended, Parts};
 pub use errors::ParseError;

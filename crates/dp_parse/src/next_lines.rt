@@ -118,6 +118,7 @@ fn kind_next(kind: &StatementKind, first: u32, from: u32, to: u32) -> Option<u32
         | StatementKind::Return(_)
         | StatementKind::Global(_)
         | StatementKind::Unset(_)
+        | StatementKind::Constants(_)
         | StatementKind::Exit(_) => line_next(first, from, to),
     }
 }

@@ -1,6 +1,6 @@
 -- A call of a function that is not loud has no moment on a watched line.
 use mathlib.Core.Path.{fun_ext}
-use Rattle.std.proofs.Common.{◌≡◌, ℕ, zero, suc, Bool, true, false, not, ◌&&◌, ◌||◌, List, [], ◌∷◌, Option, Some, None, is_some, refl, sym, ap, ◌∙◌, subst}
+use Rattle.std.proofs.Common.{◌≡◌, ℕ, zero, suc, Bool, true, false, not, ◌&&◌, ◌||◌, List, [], ◌∷◌, Option, Some, None, is_some, refl, sym, ap, ◌∙◌}
 use Rattle.std.proofs.lemmas.Slice.Eq.{bytes_eq-Decides}
 use Rattle.std.specs.List.{list_all, list_any}
 use Rattle.std.specs.Option.{option_map_or}
@@ -17,14 +17,13 @@ use Rattle.dp_tree.specs.Files.{function_at}
 use Rattle.dp_state.specs.declared.state.State.{State}
 use Rattle.dp_depth.specs.Depth.{any_function, is_deep}
 use Rattle.dp_actions.specs.Expressions.{evaluation}
-use Rattle.dp_actions.specs.Run.{Run}
 use Rattle.dp_actions.specs.Setting.{Setting}
 use Rattle.dp_actions.specs.Statements.{statement_run}
 use Rattle.dp_meaning.specs.Programs.{setting_of}
-use Rattle.dp_meaning.proofs.QuietLaws.{IsQuiet, Given, Finished, quiet-momentless}
+use Rattle.dp_meaning.proofs.QuietLaws.{quiet-momentless}
 use Rattle.dp_quiet.specs.Quiet.{AreLoud, OnFree, is_loud, is_quiet, is_still, most_calls}
 use Rattle.dp_quiet.specs.inner.Parts.{calls_of}
-use Rattle.dp_quiet.proofs.FreeExpressions.{Fits, free-expression, free-taken, free-then}
+use Rattle.dp_quiet.proofs.FreeExpressions.{Fits, free-at_once, free-expression, free-taken, free-then}
 use Rattle.dp_quiet.proofs.FreeRuns.{free-body, free-statement}
 
 was-not : (b c : Bool) → not b ≡ c → b ≡ not c
@@ -130,17 +129,13 @@ module _ (lines : List ℕ) (bundle : Bundle) (bound : ℕ) where
 
 -- ---- a statement that is quiet
 
-at-once-free : {A : Type 0} (lines : List ℕ) (calls : Bool) (r : Run A) → IsQuiet r → OnFree lines calls r
-at-once-free lines calls r (Given a t e) = subst (OnFree lines calls) (sym e) tt
-at-once-free lines calls r (Finished o t e) = subst (OnFree lines calls) (sym e) tt
-
 pub free-quiet : (lines : List ℕ) (names : Option (List (List ℕ))) (statement : Statement)
     → is_quiet lines (calls_of names) statement ≡ true → (bundle : Bundle) → AreLoud lines bundle names
     → (bound depth : ℕ) (s : State)
     → OnFree lines (is_some names) (statement_run statement (setting_of bundle bound depth) s)
 free-quiet lines None statement quiet bundle loud bound depth =
     free-statement lines false (is_still None) (setting_of bundle bound depth)
-    (λ e h s. at-once-free lines false _ (quiet-momentless e h (setting_of bundle bound depth) s)) statement quiet
+    (λ e h s. free-at_once lines false _ (quiet-momentless e h (setting_of bundle bound depth) s)) statement quiet
 free-quiet lines (Some names) statement quiet bundle loud bound depth =
     let is : calls_of (Some names) ≡ Some (is_loud lines bundle most_calls) = ap Some (fun_ext loud) in
     let fits = fits-by lines bundle bound (is_loud lines bundle most_calls) depth

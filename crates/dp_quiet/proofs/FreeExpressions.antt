@@ -2,13 +2,12 @@
 use Rattle.std.proofs.Common.{◌≡◌, ℕ, Bool, true, false, ◌||◌, if◌then◌else◌, List, [], ◌∷◌, map, Option, Some, None, Result, Ok, Err, refl, sym, ap, ◌∙◌, subst}
 use Rattle.std.specs.Option.{option_map_or}
 use Rattle.std.specs.Str.{str_eq_ignore_ascii_case}
-use Rattle.dp_value.specs.declared.errors.CallError.{CallError}
 use Rattle.dp_value.specs.declared.errors.ValueError.{ValueError}
 use Rattle.dp_value.specs.declared.errors.WriteError.{WriteError}
 use Rattle.dp_tree.specs.declared.bundle.Bundle.{Bundle}
 use Rattle.dp_tree.specs.declared.bundle.FunctionRef.{FunctionRef}
 use Rattle.dp_tree.specs.declared.operators.BinaryOp.{BinaryOp}
-use Rattle.dp_tree.specs.declared.operators.Builtin.{Builtin}
+use Rattle.dp_tree.specs.declared.operators.Native.{Native}
 use Rattle.dp_tree.specs.declared.operators.UnaryOp.{UnaryOp}
 use Rattle.dp_value.specs.declared.value.Value.{Value}
 use Rattle.dp_value.specs.declared.value.Value.TheVariants as value
@@ -17,9 +16,9 @@ use Rattle.dp_value.specs.Entry.{write_result}
 use Rattle.dp_value.specs.Table.{empty}
 use Rattle.dp_value.specs.Value.{data_of}
 use Rattle.dp_operations.specs.Binary.{binary_of}
-use Rattle.dp_operations.specs.Builtins.{builtin_of}
 use Rattle.dp_operations.specs.Indices.{found_by, indexed, indexed_by, looked_up}
 use Rattle.dp_operations.specs.Unary.{unary_of}
+use Rattle.dp_state.specs.Constants.{constant}
 use Rattle.dp_state.specs.declared.moments.FatalKind.{FatalKind}
 use Rattle.dp_state.specs.declared.state.State.{State}
 use Rattle.dp_state.specs.Functions.{declared_function, is_named as is_named_of}
@@ -37,17 +36,20 @@ use Rattle.dp_tree.specs.declared.tree.Operator.TheVariants.{Or, And, Of}
 use Rattle.dp_tree.specs.declared.tree.Order.{Order}
 use Rattle.dp_tree.specs.declared.tree.Place.{Place, map-Place, roll-Place}
 use Rattle.dp_actions.specs.Calls.{BuiltIn, Declared, call_run, callee, declared_callee}
+use Rattle.dp_actions.specs.Constants.{constant_run}
 use Rattle.dp_actions.specs.Expressions.{ExpressionRun, ItemRun, LinkRun, values_run, indices_run, links_run, items_run, operator_run, item_run, coalesced, choice, conditional, place_layer, item_layer, link_layer, expression_layer, expression_run, place_run, evaluation}
 use Rattle.dp_actions.specs.Expressions.{item_run_of, link_run}
 use Rattle.dp_actions.specs.Places.{PlaceRun, assign_run, assigned_under, assignment, coalescing, compound, isset_run, step, variable}
 use Rattle.dp_actions.specs.Run.{Run, Done, Over, At, and_then, taken}
 use Rattle.dp_actions.specs.Setting.{Setting, Part}
-use Rattle.dp_actions.specs.Values.{builtin_run, value_run, write_run, holds, is_missing}
+use Rattle.dp_actions.specs.Values.{value_run, write_run, holds, is_missing}
 use Rattle.dp_tree.specs.Purity as purity
 use Rattle.dp_depth.specs.Depth.{any_part, is_deep, place_is_deep}
 use Rattle.dp_depth.specs.Depth as deep
 use Rattle.dp_depth.specs.inner.Parts.{item_is_deep, link_is_deep}
 use Rattle.dp_meaning.proofs.Always.{Each}
+use Rattle.dp_meaning.proofs.NativeRuns.{native-is, read-is}
+use Rattle.dp_meaning.proofs.QuietLaws.{IsQuiet, Given, Finished, quiet-native}
 use Rattle.dp_quiet.specs.Quiet as quiet
 
 pub neither : (a b : Bool) → (a || b) ≡ false → (a ≡ false) × (b ≡ false)
@@ -75,6 +77,11 @@ module _ (lines : List ℕ) (calls : Bool) where
   free-taken (Ok t) s = tt
   free-taken (Err kind) s = tt
 
+  -- what is done at once has no moment
+  pub free-at_once : {A : Type 0} (r : Run A) → IsQuiet r → FreeRun r
+  free-at_once r (Given a t e) = subst (quiet.OnFree lines calls) (sym e) tt
+  free-at_once r (Finished o t e) = subst (quiet.OnFree lines calls) (sym e) tt
+
 -- what parts go by where the functions of this bundle that are not loud have no moment that is watched
 pub record Fits (lines : List ℕ) (bundle : Bundle) (loud : List ℕ → Bool) (setting : Setting) : Type 0 where
   pub same_bundle : setting.bundle ≡ bundle
@@ -97,10 +104,6 @@ module _ (lines : List ℕ) (bundle : Bundle) (loud : List ℕ → Bool) (settin
   free-write : (r : Result Data WriteError) (s : State) → OnFree (write_run r s)
   free-write (Ok v) s = tt
   free-write (Err e) s = tt
-
-  free-builtin : (r : Result Data CallError) (s : State) → OnFree (builtin_run r s)
-  free-builtin (Ok v) s = tt
-  free-builtin (Err e) s = tt
 
   -- ---- parts
 
@@ -245,13 +248,13 @@ module _ (lines : List ℕ) (bundle : Bundle) (loud : List ℕ → Bool) (settin
     free-declared (Some reference) named =
         free-at reference (named reference refl) (function_at bundle reference) refl
 
-    free-callee : (b : Option Builtin) (o : Option FunctionRef) → WithName name o
+    free-callee : (b : Option Native) (o : Option FunctionRef) → WithName name o
         → OnFree (call_run (option_map_or (λ f. Some (BuiltIn f)) b (option_map_or (declared_callee bundle) o None))
         (values_run arguments) setting s)
     free-callee None o named = free-declared o named
     free-callee (Some b) o named =
         free-then lines true _ _ (free-values arguments each s)
-        (λ values t. free-builtin (builtin_of b (map data_of values)) t)
+        (λ values t. free-at_once lines true _ (quiet-native _ t (native-is b values t)))
 
     free-call : OnFree (call_run (callee setting.bundle name s) (values_run arguments) setting s)
     free-call =
@@ -338,6 +341,9 @@ module _ (lines : List ℕ) (bundle : Bundle) (loud : List ℕ → Bool) (settin
   free-layer (Expression-F.Number m) all = (λ s. tt, λ s. tt)
   free-layer (Expression-F.Text bytes) all = (λ s. tt, λ s. tt)
   free-layer (Expression-F.Variable name) all = (λ s. tt, λ s. tt)
+  free-layer (Expression-F.Constant name) all =
+      let k : FreePart (λ setting s. constant_run name s) =
+      λ s. free-at_once lines true _ (quiet-native _ s (read-is (constant name s) s)) in (k, k)
   free-layer (Expression-F.Array items) all =
       let k = free-items _ (each-free (item_is_deep loud) item_run_of FreeFrom items all) (value.Array empty) in
       (k, k)

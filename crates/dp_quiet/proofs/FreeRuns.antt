@@ -7,10 +7,12 @@ use Rattle.dp_value.specs.declared.key.Key.{Key}
 use Rattle.dp_value.specs.declared.value.Value.{Value}
 use Rattle.dp_value.specs.declared.value.Value.TheVariants as value
 use Rattle.dp_value.specs.Data.{Data}
+use Rattle.dp_state.specs.Constants.{with_constant}
 use Rattle.dp_state.specs.declared.state.State.{State}
 use Rattle.dp_tree.specs.Purity.{all_pure}
 use Rattle.dp_tree.specs.declared.tree.Arm.{Arm, map-Arm, roll-Arm}
 use Rattle.dp_tree.specs.declared.tree.Binding.{Binding}
+use Rattle.dp_tree.specs.declared.tree.Definition.{Definition}
 use Rattle.dp_tree.specs.declared.tree.Expression.{Expression}
 use Rattle.dp_tree.specs.declared.tree.Place.{Place}
 use Rattle.dp_tree.specs.declared.tree.Statement.{Statement, map-Statement, roll-Statement, ind-Statement}
@@ -27,7 +29,7 @@ use Rattle.dp_actions.specs.Loops.{after_body, last_holds, turns, do_turns, bind
 use Rattle.dp_actions.specs.Run.{Run, Done}
 use Rattle.dp_actions.specs.Setting.{Setting, Part}
 use Rattle.dp_actions.specs.Values.{holds}
-use Rattle.dp_actions.specs.Statements.{KindRun, ArmRun, go_on, sequence, echoes, arms_run, return_run, statement_run, arm_run, body_run, end_run}
+use Rattle.dp_actions.specs.Statements.{KindRun, ArmRun, go_on, sequence, constants_run, echoes, arms_run, return_run, statement_run, arm_run, body_run, end_run}
 use Rattle.dp_actions.specs.Statements as runs_of
 use Rattle.dp_actions.specs.inner.StatementParts.{kind_run}
 use Rattle.dp_meaning.proofs.Always.{Each}
@@ -130,6 +132,14 @@ module _ (lines : List ℕ) (calls : Bool) (still : Expression → Bool) (settin
       let both = both-true (still e) (list_all still es) h in
       free-then lines calls _ _ (keeps e both.0 s) (λ v t.
       free-then lines calls _ _ (free-taken lines calls _ t) (λ _. free-echoes es both.1))
+
+  free-constants : (all : List Definition) → list_all (λ (d : Definition). still d.value) all ≡ true
+      → FreePart (constants_run all)
+  free-constants [] h s = tt
+  free-constants (first ∷ rest) h s =
+      let both = both-true (still first.value) (list_all (λ (d : Definition). still d.value) rest) h in
+      free-then lines calls _ _ (keeps first.value both.0 s)
+      (λ v t. free-constants rest both.1 (with_constant first.name v t))
 
   abbrev FreeArm : ArmRun → Type 0
   FreeArm arm = (otherwise : Part Signal) → FreePart otherwise → FreePart (arm otherwise)
@@ -293,6 +303,9 @@ module _ (lines : List ℕ) (calls : Bool) (still : Expression → Bool) (settin
   free-layer (StatementKind-F.Unset places) line h =
       let both = both-true (is_free lines line) (list_all (place_is_still still) places) h in
       λ s. (both.0, λ t. free-then lines calls _ _ (free-unset places both.1 t) (λ _ u. tt))
+  free-layer (StatementKind-F.Constants all) line h =
+      let both = both-true (is_free lines line) (list_all (λ (d : Definition). still d.value) all) h in
+      λ s. (both.0, λ t. free-constants all both.1 t)
   free-layer (StatementKind-F.Exit value) line h =
       let both = both-true (is_free lines line) (option_map_or still value true) h in
       λ s. (both.0, λ t. free-exit value both.1 t)

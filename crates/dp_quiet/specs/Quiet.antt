@@ -70,6 +70,8 @@ module _ (lines : List ℕ) (still : Expression → Bool) where
   kind_layer (StatementKind-F.Global names) line = is_free lines line
   kind_layer (StatementKind-F.Unset places) line =
       is_free lines line && list_all (place_is_still still) places
+  kind_layer (StatementKind-F.Constants all) line =
+      is_free lines line && list_all (λ d. still d.value) all
   kind_layer (StatementKind-F.Exit value) line =
       is_free lines line && option_map_or still value true
 

@@ -8,7 +8,7 @@ ghost use Rattle.dp_quiet.specs.inner.Parts as parts;
 
 use dp_depth::{DeepNames, any_deep, is_deep};
 use dp_meaning::{all_momentless, is_momentless};
-use dp_tree::{Arm, Boxed, Expression, Place, Statement, StatementKind};
+use dp_tree::{Arm, Boxed, Definition, Expression, Place, Statement, StatementKind};
 
 /// Whether a statement is quiet.
 #[cycle(statements)]
@@ -79,6 +79,8 @@ fn kind_is_quiet<'p>(
         StatementKind::Global(_) => is_free(lines, line),
         StatementKind::Unset(places) => is_free(lines, line)
             && places_are_still(loud, places.as_slice()),
+        StatementKind::Constants(all) => is_free(lines, line)
+            && constants_are_still(loud, all.as_slice()),
         StatementKind::Exit(value) => is_free(lines, line) && is_still_if_any(loud, value),
     }
 }
@@ -155,6 +157,18 @@ fn places_are_still<'p>(loud: Option<&DeepNames<'p>>, all: &'p [Place]) -> bool
 {
     for place in all {
         if !all_still(loud, place.indices.as_slice()) {
+            return false;
+        }
+    }
+    true
+}
+
+/// Whether the value of each of these constants is still.
+fn constants_are_still<'p>(loud: Option<&DeepNames<'p>>, all: &'p [Definition]) -> bool
+    ensures { result ≡ list_all (λ d. parts.stills (option_copied loud.entry) d.value) all.now }
+{
+    for definition in all {
+        if !is_still(loud, &definition.value) {
             return false;
         }
     }

@@ -1,5 +1,5 @@
 -- What a program has written stays written: along its moments, and by writes, the output only grows.
-use Rattle.std.proofs.Common.{◌≡◌, ◌⊎◌, ℕ, zero, suc, ◌+◌, ◌-◌, ◌<◌, ◌≤◌, Bool, true, false, if◌then◌else◌, List, [], ◌∷◌, ◌++◌, length, Option, Some, None, Result, Ok, Err, refl, sym, ap, subst, ◌∙◌, inl, inr, ⊎_elim, arith, append_assoc, append-nil}
+use Rattle.std.proofs.Common.{◌≡◌, ◌⊎◌, ℕ, zero, suc, ◌+◌, ◌-◌, ◌<◌, ◌≤◌, Bool, true, false, if◌then◌else◌, List, [], ◌∷◌, ◌++◌, length, Option, Some, None, is_some, Result, Ok, Err, refl, sym, ap, subst, ◌∙◌, inl, inr, ⊎_elim, arith, append_assoc, append-nil}
 use Rattle.std.specs.Prelude.{◌==◌, nat_eq, nat_le, nat_lt, unwrap_or, slice_get}
 use Rattle.std.specs.Option.{option_map_or}
 use Rattle.std.proofs.lemmas.Bool.{cases_lt}
@@ -21,6 +21,7 @@ use Rattle.dp_state.specs.declared.moments.Outcome.TheVariants.{Bound as OutOfBo
 use Rattle.dp_state.specs.declared.state.Frame.{Frame}
 use Rattle.dp_state.specs.declared.state.State.{State}
 use Rattle.dp_state.specs.declared.vars.Slot.TheVariants.{Bound}
+use Rattle.dp_state.specs.Constants.{constant, with_constant}
 use Rattle.dp_state.specs.Functions.{called, called_frame, included, included_frame, any_declared}
 use Rattle.dp_state.specs.Places.{assigned, given_keys, unset, then_state, with_global, with_null, with_own, with_value, with_variables}
 use Rattle.dp_state.specs.States.{entered, frame_limit, owner_at, printed, read_at, variables_at}
@@ -91,6 +92,9 @@ output-global name s =
     let more : Variables = with_slot (variables_at s 0) name Bound in
     either-state (owner_at s 0 == 0) g (with_variables 0 more g) s.output refl (output-own (owner_at g 0) more g)
 
+output-constant : (name : List ℕ) (v : Value) (s : State) → (with_constant name v s).output ≡ s.output
+output-constant name v s = either-state (is_some (constant name s)) s _ s.output refl refl
+
 output-printed : (piece : List ℕ) (s t : State) → printed piece s ≡ Ok t → t.output ≡ s.output ++ piece
 output-printed piece s t e = ap (λ (u : State). u.output) (sym (either-ok _ _ _ _ e))
 
@@ -145,6 +149,7 @@ module _ (o : List ℕ) where
     assigns = λ d n level name keys push v s t e p. on n s t (output-assigned level name keys push v s t e) p;
     unsets = λ d n name keys s t e p. on n s t (output-unset name keys s t e) p;
     binds = λ d n name s p. on n s (with_global name s) (output-global name s) p;
+    defines = λ d n name v s p. on n s (with_constant name v s) (output-constant name v s) p;
     prints = λ d n piece s t e p. subst (Begins o) (sym (output-printed piece s t e)) (begins_more o s.output piece p);
     calls = λ d n file f values s t within e p. on n s t (output-called file f values s t e) p;
     includes = λ d n file s t within e p. on n s t (output-included bundle file s t e) p;
@@ -254,6 +259,7 @@ module _ (i : ℕ) (o : List ℕ) where
     assigns = λ d n level name keys push v s t e p. carried n s t (output-assigned level name keys push v s t e) p;
     unsets = λ d n name keys s t e p. carried n s t (output-unset name keys s t e) p;
     binds = λ d n name s p. carried n s (with_global name s) (output-global name s) p;
+    defines = λ d n name v s p. carried n s (with_constant name v s) (output-constant name v s) p;
     prints = λ d n piece s t e p. carried_on n piece s t (output-printed piece s t e) p;
     calls = λ d n file f values s t within e p. carried n s t (output-called file f values s t e) p;
     includes = λ d n file s t within e p. carried n s t (output-included bundle file s t e) p;

@@ -21,6 +21,7 @@ use Rattle.dp_state.specs.declared.state.FrameKind.TheVariants as frame_kind
 use Rattle.dp_state.specs.declared.state.State.{State}
 use Rattle.dp_state.specs.declared.vars.Slot.{Slot}
 use Rattle.dp_state.specs.declared.vars.Slot.TheVariants.{Held, Bound}
+use Rattle.dp_state.specs.Constants.{constant, with_constant}
 use Rattle.dp_state.specs.Functions.{any_declared, called, called_frame, included, included_frame}
 use Rattle.dp_state.specs.Places.{assigned, then_state, unset, with_global, with_null, with_own, with_value, with_vars, without_variable}
 use Rattle.dp_state.specs.inner.Parts.{home}
@@ -120,6 +121,7 @@ module _ (bundle : Bundle) where
     pub base : IsBase s.frames
     pub files : AllByRecursion HasFile s.frames
     pub globals : Globals s.globals
+    pub constants : Globals s.constants
     pub declared : All IsThere s.declared
 
   parts : (s : State) → IsOf bundle s → Parts s
@@ -127,6 +129,7 @@ module _ (bundle : Bundle) where
     base = subst IsBase (sym is.frames) (is.lowest, is.apart);
     files = recursion_from_All HasFile s.frames is.files;
     globals = recursion_from_All IsGlobal s.globals is.globals;
+    constants = recursion_from_All IsGlobal s.constants is.constants;
     declared = is.declared;
   }
 
@@ -139,6 +142,7 @@ module _ (bundle : Bundle) where
     lowest = base.0;
     apart = base.1;
     globals = All-from_recursion IsGlobal s.globals p.globals;
+    constants = All-from_recursion IsGlobal s.constants p.constants;
     files = All-from_recursion HasFile s.frames p.files;
     declared = p.declared;
   }
@@ -154,9 +158,9 @@ module _ (bundle : Bundle) where
       let p = parts s is in
       whole (on_line n s) (record {
         base = base-with_line n s.frames p.base;
-        files = all-with_line HasFile moved n
-            s.frames p.files;
+        files = all-with_line HasFile moved n s.frames p.files;
         globals = p.globals;
+        constants = p.constants;
         declared = p.declared;
       })
 
@@ -168,8 +172,8 @@ module _ (bundle : Bundle) where
         frames = is.frames;
         lowest = is.lowest;
         apart = is.apart;
-        globals =
-            is.globals;
+        globals = is.globals;
+        constants = is.constants;
         files = is.files;
         declared = is.declared;
       }
@@ -189,8 +193,8 @@ module _ (bundle : Bundle) where
         frames = is.frames;
         lowest = is.lowest;
         apart = is.apart;
-        globals =
-            is.globals;
+        globals = is.globals;
+        constants = is.constants;
         files = is.files;
         declared = is.declared;
       })
@@ -213,8 +217,8 @@ module _ (bundle : Bundle) where
         base = base-push s.frames frame p.base;
         files = files;
         globals = p.globals;
-        declared =
-            p.declared;
+        constants = p.constants;
+        declared = p.declared;
       }))
 
   -- where a frame stands above the main one
@@ -225,6 +229,7 @@ module _ (bundle : Bundle) where
         base = base-take (length s.frames - 1) s.frames (omega arith) p.base;
         files = all-take HasFile (length s.frames - 1) s.frames p.files;
         globals = p.globals;
+        constants = p.constants;
         declared = p.declared;
       })
 
@@ -236,8 +241,8 @@ module _ (bundle : Bundle) where
         base = p.base;
         files = p.files;
         globals = held refl;
-        declared =
-            p.declared;
+        constants = p.constants;
+        declared = p.declared;
       })
   of-with_own (suc at) vs s held is =
       let p = parts s is in
@@ -245,9 +250,9 @@ module _ (bundle : Bundle) where
       subst (IsOf bundle) (sym (above at vs s))
       (whole u (record {
         base = base-with_vars (suc at) vs s.frames p.base;
-        files = all-with_vars HasFile moved
-            (suc at) vs s.frames p.files;
+        files = all-with_vars HasFile moved (suc at) vs s.frames p.files;
         globals = p.globals;
+        constants = p.constants;
         declared = p.declared;
       }))
 
@@ -312,6 +317,22 @@ module _ (bundle : Bundle) where
   pub of-with_global : (name : List ℕ) (s : State) → IsOf bundle s → IsOf bundle (with_global name s)
   of-with_global name s is = global-by name s (owner_at s 0) is
 
+  -- a constant has a value of its own
+  pub of-with_constant : (name : List ℕ) (v : Value) (s : State) → IsOf bundle s → IsOf bundle (with_constant name v s)
+  of-with_constant name v s is = by (is_some (constant name s))
+    where
+      by : (b : Bool) → IsOf bundle (if b then s else record s { constants = with_slot s.constants name (Held v) })
+      by true = is
+      by false =
+          let p = parts s is in
+          whole (record s { constants = with_slot s.constants name (Held v) }) (record {
+            base = p.base;
+            files = p.files;
+            globals = p.globals;
+            constants = held-with_slot s.constants name v p.constants;
+            declared = p.declared;
+          })
+
   called-by : (file : ℕ) (function : Function) (values : List Value) (s t : State) (b : Bool) →
       (if b then entered (called_frame file function values) s else Err Arguments) ≡ Ok t
       → entered (called_frame file function values) s ≡ Ok t
@@ -341,6 +362,7 @@ module _ (bundle : Bundle) where
     lowest = is.lowest;
     apart = is.apart;
     globals = is.globals;
+    constants = is.constants;
     files = is.files;
     declared =
         All-append IsThere s.declared (functions_of bundle file) is.declared
@@ -371,6 +393,7 @@ module _ (bundle : Bundle) where
     lowest = refl;
     apart = refl;
     globals = All-nil IsGlobal;
+    constants = All-nil IsGlobal;
     files = All-from_recursion HasFile (first_frame ∷ []) (some, tt);
     declared = first-there 0 (function_count bundle 0) (omega arith);
   }

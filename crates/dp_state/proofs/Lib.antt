@@ -10,3 +10,4 @@ pub mod Refusals
 pub mod Parameters
 pub mod Kept
 pub mod LightTexts
+pub mod ConstantSteps

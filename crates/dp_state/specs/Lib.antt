@@ -1,7 +1,9 @@
+pub mod Sharing
 pub mod States
 pub mod Variables
 pub mod Faults
 pub mod Statuses
 pub mod Places
+pub mod Constants
 pub mod Functions
 pub mod inner

@@ -1,6 +1,6 @@
 -- States of a program: of which bundle they are, where a program begins, whose variables a frame
 -- uses, and what a step leaves.
-use Rattle.std.specs.Prelude.{◌≡◌, ℕ, zero, suc, ◌+◌, ◌-◌, ◌<◌, ◌==◌, nat_le, Bool, false, if◌then◌else◌, List, [], ◌∷◌, ◌++◌, length, take, All, Option, slice_get, Result, Ok, Err, ⊤}
+use Rattle.std.specs.Prelude.{◌≡◌, ℕ, ◌+◌, ◌-◌, ◌<◌, ◌==◌, nat_le, false, if◌then◌else◌, List, [], ◌∷◌, ◌++◌, length, take, All, Option, slice_get, Result, Ok, Err, ⊤}
 use Rattle.std.specs.Option.{option_map_or}
 use Rattle.dp_tree.specs.declared.bundle.Bundle.{Bundle}
 use Rattle.dp_tree.specs.Files.{function_count, functions_of}
@@ -13,12 +13,13 @@ use Rattle.dp_state.specs.declared.state.FrameKind.TheVariants as frame_kind
 use Rattle.dp_state.specs.declared.state.State.{State}
 use Rattle.dp_state.specs.declared.vars.Slot.{Slot}
 use Rattle.dp_state.specs.declared.vars.Slot.TheVariants.{Held, Bound}
+pub use Rattle.dp_state.specs.Sharing.{shares_at, owner}
 use Rattle.dp_state.specs.Variables.{Variables, value_in}
 use Rattle.dp_value.specs.declared.value.Value.{Value}
 
 -- the most frames, the main one counted
 abbrev pub frame_limit : ℕ
-frame_limit = 100
+frame_limit = 1000
 
 -- the most bytes that a program may write
 abbrev pub output_limit : ℕ
@@ -30,8 +31,8 @@ abbrev pub HasValue : Slot → Type 0
 HasValue (Held value) = ⊤
 HasValue Bound = ⊥
 
--- Its lowest frame is the main one and does not share, no global variable is bound, and each frame
--- and each declared function has its place in the bundle.
+-- Its lowest frame is the main one and does not share, each global variable and each constant has a
+-- value of its own, and each frame and each declared function has its place in the bundle.
 pub record IsOf (bundle : Bundle) (s : State) : Type 0 where
   pub main : Frame
   pub above : List Frame
@@ -39,6 +40,7 @@ pub record IsOf (bundle : Bundle) (s : State) : Type 0 where
   pub lowest : main.kind ≡ frame_kind.Main
   pub apart : main.shares ≡ false
   pub globals : All (λ variable. HasValue variable.1) s.globals
+  pub constants : All (λ constant. HasValue constant.1) s.constants
   pub files : All (λ frame. frame.file < length bundle.files) s.frames
   pub declared : All (λ f. f.function < function_count bundle f.file) s.declared
 
@@ -51,22 +53,13 @@ abbrev pub opening : Bundle → State
 opening bundle = record {
   frames = first_frame ∷ [];
   globals = [];
+  constants = [];
   declared = functions_of bundle 0;
   output = [];
   moments = 0;
 }
 
 -- ---- the variables of a frame
-
--- whether the frame at this position, counted from the lowest, uses the variables of the frame
--- below it
-abbrev pub shares_at : List Frame → ℕ → Bool
-shares_at frames at = option_map_or (λ f. f.shares) (slice_get frames at) false
-
--- the position of the frame whose variables the frame at this position uses
-abbrev pub owner : List Frame → ℕ → ℕ
-owner frames zero = zero
-owner frames (suc at) = if shares_at frames (suc at) then owner frames at else suc at
 
 -- the own variables of the frame at this position; those of the lowest are the global ones
 abbrev pub own_variables : State → ℕ → Variables

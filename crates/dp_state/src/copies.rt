@@ -5,8 +5,7 @@ ghost use Rattle.dp_state.specs.inner.Parts.{with_pair};
 
 use crate::state::{Frame, FrameKind, State};
 use crate::vars::{Slot, Vars};
-use dp_value::{Items, Memory};
-use std::alloc::Global;
+use dp_value::Memory;
 
 impl Slot {
     /// An equal slot.
@@ -71,17 +70,6 @@ impl Frame {
     }
 }
 
-/// Equal frames in the same order.
-fn copy_frames(alloc: Global, frames: &[Frame]) -> Result<Items<Frame>, Memory>
-    ensures { IfOk result (λ copy. copy ≡ frames.now) }
-{
-    let mut copies = Vec::with_capacity(alloc, frames.len())?;
-    for frame in frames {
-        copies.push(frame.try_clone()?)?;
-    }
-    Ok(Items::of(copies))
-}
-
 impl State {
     /// An equal state.
     pub fn try_clone(&self) -> Result<State, Memory>
@@ -89,8 +77,9 @@ impl State {
     {
         let alloc = self.globals.allocator();
         Ok(State {
-            frames: copy_frames(alloc, self.frames.as_slice())?,
+            frames: self.frames.try_clone(alloc)?,
             globals: self.globals.try_clone()?,
+            constants: self.constants.try_clone()?,
             declared: self.declared.try_clone(alloc)?,
             output: self.output.try_clone()?,
             moments: self.moments,

@@ -2,10 +2,12 @@
 #![tactic(auto)]
 
 mod calls;
+mod constants;
 mod copies;
 mod declarations;
 mod entries;
 mod faults;
+mod frames;
 mod functions;
 mod lookups;
 mod moments;
@@ -18,7 +20,7 @@ mod vars;
 
 pub use declarations::Declared;
 pub use moments::{FatalKind, Moment, MomentKind, Outcome, Path};
-pub use state::{Fault, Frame, FrameKind, State};
+pub use state::{Fault, Frame, FrameKind, Frames, State};
 pub use statuses::{KILLED_STATUS, UNFINISHED_STATUS, status};
 pub use steps::{FRAME_LIMIT, OUTPUT_LIMIT};
 pub use vars::{Slot, Vars};

@@ -2,37 +2,12 @@
 
 ghost use Rattle.std.specs.Prelude.{◌≡◌, ◌≤◌, ◌-◌, length, option_map};
 ghost use Rattle.dp_state.specs.Variables.{slot_of, value_held};
-ghost use Rattle.dp_state.specs.States.{file_of, line_of, own_variables, owner as owner_of, owner_at as owner_of_level};
-ghost use Rattle.dp_state.specs.States.{read, read_at, shares_at, top_frame, variables_at};
+ghost use Rattle.dp_state.specs.States.{file_of, line_of, own_variables, owner_at as owner_of_level};
+ghost use Rattle.dp_state.specs.States.{read, read_at, top_frame, variables_at};
 
 use crate::state::{Frame, State};
 use crate::vars::{Slot, Vars};
 use dp_value::{Bytes, Value};
-
-/// Whether the frame at this position uses the variables of the frame below it.
-fn shares(frames: &[Frame], at: usize) -> bool
-    ensures { result ≡ shares_at frames.now at }
-{
-    match frames.get(at) {
-        Some(frame) => frame.shares,
-        None => false,
-    }
-}
-
-/// The position of the frame whose variables the frame at this position uses.
-#[tactic(auto, using(crate::proofs::Owners::owner_shares, crate::proofs::Owners::owner_own))]
-fn owner(frames: &[Frame], at: usize) -> usize
-    ensures owner { result ≡ owner_of frames.now at }
-    ensures within { result ≤ at }
-{
-    if at == 0 {
-        return 0;
-    }
-    if shares(frames, at) {
-        return owner(frames, at - 1);
-    }
-    at
-}
 
 impl State {
     /// The own variables of the frame at this position; those of the lowest are the global ones.
@@ -53,9 +28,8 @@ impl State {
         ensures owner { result ≡ owner_of_level self.now level }
         ensures within { result ≤ length self.now.frames - 1 }
     {
-        let frames = self.frames.as_slice();
-        let position = frames.len().saturating_sub(1).saturating_sub(level);
-        owner(frames, position)
+        let top = self.frames.len().saturating_sub(1);
+        self.frames.owner(top.saturating_sub(level))
     }
 
     /// The variables that the frame at a level uses. Level 0 is the top frame, and a level beyond the frames is that of

@@ -54,6 +54,8 @@ pub enum FatalKind {
     Scalar,
     /// More output than [`OUTPUT_LIMIT`](crate::OUTPUT_LIMIT).
     OutputFull,
+    /// A constant that is not there.
+    NoConstant,
 }
 
 /// How a run ended.

@@ -1,19 +1,19 @@
 //! Writes of variables and of their entries, and `unset` and `global`.
 
-ghost use Rattle.std.specs.Prelude.{◌≡◌, ◌⊎◌, ◌++◌, ◌≤◌, ◌<◌, ◌-◌, false, [], Ok, Err, Some, length, option_map};
-ghost use Rattle.std.specs.Prelude.{slice_get, IfOk, IsOk, IfErr, OnOk, OnErr};
+ghost use Rattle.std.specs.Prelude.{◌≡◌, ◌⊎◌, ◌++◌, ◌≤◌, ◌-◌, false, [], Ok, Err, length, IfOk, IsOk, IfErr, OnOk};
+ghost use Rattle.std.specs.Prelude.{OnErr};
 ghost use Rattle.dp_state.specs.States.{own_variables, IsCause, IsFatal, IsSure};
 ghost use Rattle.dp_state.specs.declared.state.Fault.TheVariants as fault;
 ghost use Rattle.dp_value.specs.declared.value.Value.TheVariants as variant;
 ghost use Rattle.dp_state.specs.Variables.{slot_of};
-ghost use Rattle.dp_state.specs.Places.{assigned, is_bound as is_mark, unset, with_global, with_own, with_vars};
+ghost use Rattle.dp_state.specs.Places.{assigned, is_bound as is_mark, unset, with_global, with_own};
 ghost use Rattle.dp_state.specs.Places.{without_variable};
 ghost use Rattle.dp_state.specs.inner.Parts.{home as home_of};
 
 use crate::entries::{append_in, assign_in, bind_in, make_null, remove_in};
-use crate::state::{Fault, Frame, State};
+use crate::state::{Fault, State};
 use crate::vars::{Slot, Vars};
-use dp_value::{Bytes, Items, Key, Memory, Text, Value};
+use dp_value::{Bytes, Key, Memory, Text, Value};
 use std::mem;
 
 impl State {
@@ -177,21 +177,8 @@ impl State {
         if at == 0 {
             return mem::replace(&mut self.globals, vars);
         }
-        let alloc = self.allocator();
-        let mut frames = mem::replace(&mut self.frames, Items::of(Vec::new(alloc))).into_vec();
-        let old = exchange_vars(&mut frames, at, vars);
-        self.frames = Items::of(frames);
-        old
+        self.frames.exchange_vars(at, vars)
     }
-}
-
-/// Gives the frame at this position its own variables, and gives those out that it had.
-fn exchange_vars(frames: &mut Vec<Frame>, at: usize, vars: Vars) -> Vars
-    requires { at < length frames.old.items }
-    ensures taken { option_map (λ frame. frame.vars) (slice_get frames.old.items at) ≡ Some result }
-    ensures given { frames.new.items ≡ with_vars at vars frames.old.items }
-{
-    mem::replace(&mut frames[at].vars, vars)
 }
 
 /// Whether a name is bound to the global variable of its name.

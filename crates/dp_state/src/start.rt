@@ -4,25 +4,24 @@ ghost use Rattle.std.specs.Prelude.{◌≡◌, IfOk};
 ghost use Rattle.dp_state.specs.States.{first_frame, opening};
 
 use crate::declarations::Declared;
-use crate::state::{Frame, FrameKind, State};
+use crate::state::{Frame, FrameKind, Frames, State};
 use crate::vars::Vars;
 use dp_tree::Bundle;
-use dp_value::{Bytes, Items, Memory};
+use dp_value::{Bytes, Memory};
 use std::alloc::Global;
 
 impl State {
-    /// The state in which a program begins: the main frame alone, on line 1, no variables, the functions of the main
-    /// file declared, nothing written, no moment.
+    /// The state in which a program begins: the main frame alone, on line 1, no variables, no constants, the functions
+    /// of the main file declared, nothing written, no moment.
     pub fn opening(alloc: Global, bundle: &Bundle) -> Result<State, Memory>
         ensures { IfOk result (λ state. state ≡ opening bundle.now) }
     {
         let mut declared = Declared::none(alloc);
         declared.add(0, bundle.function_count(0)?)?;
-        let mut frames = Vec::new(alloc);
-        frames.push(main_frame(alloc))?;
         Ok(State {
-            frames: Items::of(frames),
+            frames: Frames::of(alloc, main_frame(alloc))?,
             globals: Vars::new(alloc),
+            constants: Vars::new(alloc),
             declared,
             output: Bytes::of(Vec::new(alloc)),
             moments: 0,

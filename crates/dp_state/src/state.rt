@@ -3,7 +3,8 @@
 use crate::declarations::Declared;
 use crate::moments::FatalKind;
 use crate::vars::Vars;
-use dp_value::{Bytes, Items};
+use dp_value::Bytes;
+use std::marker::Model;
 
 /// What a frame is of.
 #[derive(Debug, Drop)]
@@ -27,12 +28,39 @@ pub struct Frame {
     pub vars: Vars,
 }
 
-/// A state of a program that runs: its frames, the lowest first, its global variables, the functions that are declared,
-/// what it has written, and how many moments it has had.
+/// Frames, the lowest first. Contracts see the list of the frames.
+///
+/// With each of them is kept whose variables it uses, so that a look-up of a variable walks over no frames that share.
+#[derive(Debug, Drop)]
+pub struct Frames {
+    pub(crate) frames: Vec<Frame>,
+    pub(crate) owners: Vec<usize>,
+}
+
+impl Model for Frames {
+    ghost use Rattle.std.specs.Prelude.{◌≡◌, List};
+    ghost use Rattle.std.specs.Coded.{coded_list};
+    ghost use Rattle.dp_state.specs.declared.state.Frame.{Frame as ProgramFrame};
+    ghost use Rattle.dp_state.specs.contracts.state.Frame as frame;
+    ghost use Rattle.dp_state.specs.inner.Owners.{owners_of};
+
+    ghost Value = { List ProgramFrame };
+
+    ghost coded = { coded_list frame.the_row.coded };
+
+    ghost view = { λ f. f.frames.items };
+
+    ghost invariant = { λ f. f.owners.items ≡ owners_of f.frames.items };
+}
+
+/// A state of a program that runs: its frames, the lowest first, its global variables, the constants that it has
+/// defined, in the order of their definition, the functions that are declared, what it has written, and how many
+/// moments it has had.
 #[derive(Debug, Drop)]
 pub struct State {
-    pub frames: Items<Frame>,
+    pub frames: Frames,
     pub globals: Vars,
+    pub constants: Vars,
     pub declared: Declared,
     pub output: Bytes,
     pub moments: u64,

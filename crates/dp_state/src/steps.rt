@@ -1,16 +1,16 @@
 //! The steps on a state.
 
-ghost use Rattle.std.specs.Prelude.{◌≡◌, ◌++◌, ◌∷◌, ◌<◌, [], Ok, IfErr, OnOk, OnErr};
-ghost use Rattle.dp_state.specs.States.{counted, entered, left, on_line, printed, with_line, IsCause, IsSure};
+ghost use Rattle.std.specs.Prelude.{◌≡◌, ◌++◌, ◌<◌, Ok, IfErr, OnOk, OnErr};
+ghost use Rattle.dp_state.specs.States.{counted, entered, left, on_line, printed, IsCause, IsSure};
 
 use crate::moments::FatalKind;
 use crate::state::{Fault, Frame, State};
-use dp_value::{Bytes, Items, Memory};
+use dp_value::{Bytes, Memory};
 use std::alloc::Global;
 use std::mem;
 
 /// The most frames, the main one counted.
-pub const FRAME_LIMIT: usize = 100;
+pub const FRAME_LIMIT: usize = 1000;
 
 /// The most bytes that a program may write.
 pub const OUTPUT_LIMIT: usize = 16_777_216;
@@ -25,10 +25,7 @@ impl State {
     pub fn set_line(&mut self, line: u32)
         ensures { self.new ≡ on_line line self.old }
     {
-        let alloc = self.allocator();
-        let mut frames = mem::replace(&mut self.frames, Items::of(Vec::new(alloc))).into_vec();
-        set_top_line(&mut frames, line);
-        self.frames = Items::of(frames);
+        self.frames.set_top_line(line);
     }
 
     /// Counts a moment. The caller shows that the count has not reached its last value. Takes no memory.
@@ -70,8 +67,7 @@ impl State {
         if self.frames.len() >= FRAME_LIMIT {
             return Err(Fault::Fatal(FatalKind::TooDeep));
         }
-        let alloc = self.allocator();
-        push(alloc, &mut self.frames, frame)?;
+        self.frames.push(frame)?;
         Ok(())
     }
 
@@ -79,22 +75,8 @@ impl State {
     pub fn leave(&mut self)
         ensures { self.new ≡ left self.old }
     {
-        let alloc = self.allocator();
-        let mut frames = mem::replace(&mut self.frames, Items::of(Vec::new(alloc))).into_vec();
-        let _ = frames.pop();
-        self.frames = Items::of(frames);
+        self.frames.pop();
     }
-}
-
-/// Gives the last frame a line.
-fn set_top_line(frames: &mut Vec<Frame>, line: u32)
-    ensures { frames.new.items ≡ with_line line frames.old.items }
-{
-    let count = frames.len();
-    if count == 0 {
-        return;
-    }
-    frames[count - 1].line = line;
 }
 
 /// Puts a piece behind the bytes.
@@ -106,16 +88,4 @@ fn append(alloc: Global, bytes: &mut Bytes, piece: &[u8]) -> Result<(), Memory>
     let added = held.extend_from_slice(piece);
     *bytes = Bytes::of(held);
     added
-}
-
-/// Puts a frame behind the frames.
-fn push(alloc: Global, frames: &mut Items<Frame>, frame: Frame) -> Result<(), Memory>
-    ensures ok { OnOk result (frames.new ≡ frames.old ++ frame ∷ []) }
-    ensures err { OnErr result (frames.new ≡ frames.old) }
-{
-    let mut held = mem::replace(frames, Items::of(Vec::new(alloc))).into_vec();
-    let pushed = held.push(frame);
-    *frames = Items::of(held);
-    pushed?;
-    Ok(())
 }

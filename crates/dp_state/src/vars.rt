@@ -1,4 +1,4 @@
-//! The variables of a frame.
+//! The variables of a frame, and the constants of a program.
 
 ghost use Rattle.std.specs.Prelude.{◌≡◌, position, Some, IfSome};
 ghost use Rattle.std.specs.Str.{bytes_eq};
@@ -19,7 +19,8 @@ pub enum Slot {
     Bound,
 }
 
-/// Variables in the order of their first assignment. Contracts see the list of names and slots.
+/// Variables in the order of their first assignment, or constants in that of their definition. Contracts see the list
+/// of names and slots.
 #[derive(Debug, Drop)]
 pub struct Vars {
     pub(crate) slots: IndexMap<Bytes, Slot>,

@@ -12,6 +12,7 @@ use Rattle.dp_tree.specs.declared.tree.Link.{Link}
 use Rattle.dp_tree.specs.declared.tree.Order.{Order}
 use Rattle.dp_tree.specs.declared.tree.Place.{Place}
 use Rattle.dp_state.specs.declared.state.State.{State}
+use Rattle.dp_actions.specs.Constants.{constant_run}
 use Rattle.dp_actions.specs.Expressions.{ExpressionRun, choice, evaluation, evaluations, expression_run, indices_run, items_run, links_run, place_run}
 use Rattle.dp_actions.specs.Expressions.{item_run_of, link_run}
 use Rattle.dp_actions.specs.Places.{assigned_under, compound_under, coalescing_under, isset_run, step_under, variable}
@@ -50,6 +51,9 @@ module _ (setting : Setting) (k : Follows) (s : State) where
 
   pub begins-Variable : (name : List ℕ) → evaluation (tree.Variable name) setting s ≡ Done (variable name s) s
   begins-Variable name = ap (λ z. z.value setting s) (layer.run-Variable name)
+
+  pub begins-Constant : (name : List ℕ) → evaluation (tree.Constant name) setting s ≡ constant_run name s
+  begins-Constant name = ap (λ z. z.value setting s) (layer.run-Constant name)
 
   pub begins-Array : (items : List Item) → (evaluation (tree.Array items) setting s >>= to_value k)
       ≡ (items_run (map item_run_of items) (value.Array empty) setting s >>= to_value k)

@@ -7,7 +7,6 @@ use Rattle.dp_value.specs.declared.value.Value.TheVariants as value
 use Rattle.dp_value.specs.Entry.{write_result}
 use Rattle.dp_value.specs.Value.{data_of}
 use Rattle.dp_operations.specs.Binary.{binary_of}
-use Rattle.dp_operations.specs.Builtins.{builtin_of}
 use Rattle.dp_operations.specs.Unary.{unary_of}
 use Rattle.dp_tree.specs.declared.tree.Expression.{Expression}
 use Rattle.dp_tree.specs.declared.tree.Item.{Item}
@@ -25,7 +24,8 @@ use Rattle.dp_actions.specs.Places.{compound_under, isset_run, missing_run, step
 use Rattle.dp_actions.specs.Run.{Run, ◌>>=◌}
 use Rattle.dp_actions.specs.Setting.{Setting}
 use Rattle.dp_actions.specs.InPlace.{entries_by}
-use Rattle.dp_actions.specs.Values.{builtin_run, holds, is_missing, value_run, write_run}
+use Rattle.dp_actions.specs.Calls.{native_run}
+use Rattle.dp_actions.specs.Values.{holds, is_missing, value_run, write_run}
 use Rattle.dp_step_parts.specs.declared.work.Given.{Given}
 use Rattle.dp_step_parts.specs.declared.work.Given.TheVariants as given
 use Rattle.dp_step_parts.specs.declared.work.Hand.{Hand}
@@ -139,8 +139,8 @@ value_rest setting (value_work.Combine op name indices old) v k s =
 
 -- the same of an expression that waits for values
 abbrev pub values_rest : Setting → ForValues → List Value → Follows → State → Run Signal
-values_rest setting (values_work.Builtin b) values k s =
-    builtin_run (builtin_of b (map data_of values)) s >>= to_value k
+values_rest setting (values_work.Native function) values k s =
+    native_run function values s >>= to_value k
 values_rest setting (values_work.Assign name push right) indices k s =
     assigned_under push name.now (evaluation right.now) indices setting s >>= to_value k
 values_rest setting (values_work.Compound op name right) indices k s =

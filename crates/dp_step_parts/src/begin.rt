@@ -11,7 +11,7 @@ ghost use Rattle.dp_step_parts.specs.Leads.{Leads};
 
 use crate::next::{give, given};
 use crate::work::{ForPart, ForValue, ForValues, Hand, Next, Work};
-use dp_actions::{Halt, Reading, text_value, variable_value};
+use dp_actions::{Halt, Reading, constant_value, text_value, variable_value};
 use dp_state::State;
 use dp_tree::{Boxed, Expression};
 use dp_value::{Items, PhpArray, Value};
@@ -61,6 +61,7 @@ pub(crate) fn begin<'p>(alloc: Global, e: &'p Expression, state: &State) -> Resu
         Expression::Number(n) => Ok(give(Value::Int(*n))),
         Expression::Text(bytes) => given(text_value(alloc, bytes)),
         Expression::Variable(name) => given(variable_value(name, state)),
+        Expression::Constant(name) => given(constant_value(name, state)),
         Expression::Array(items) => {
             let empty = Value::Array(PhpArray::new(alloc));
             Ok(Next {

@@ -19,12 +19,13 @@ use crate::lists::keyed_item;
 use crate::next::{give, given, lengthened, linked, read_under};
 use crate::work::{ForPart, ForValue, ForValues, Hand, Next, Work};
 use dp_actions::{
-    Halt, Reading, assign_place, builtin_call, combine, entry_at, found_place, holds, is_missing,
-    is_missing_place, operated, present, pushed, put, read_place, step_place, value_of,
+    Halt, Reading, assign_place, combine, entry_at, found_place, holds, is_missing,
+    is_missing_place, native_call, operated, present, pushed, put, read_place, step_place,
+    value_of,
 };
 use dp_operations::unary;
 use dp_state::State;
-use dp_tree::{BinaryOp, Boxed, Builtin, Expression, Item, Link, Order, Place, UnaryOp};
+use dp_tree::{BinaryOp, Boxed, Expression, Item, Link, Native, Order, Place, UnaryOp};
 use dp_value::{Bytes, Items, Memory, Value, truthy};
 use std::alloc::Global;
 
@@ -296,7 +297,7 @@ pub(crate) fn receive_values<'p>(
         → Leads (next_rest setting) (λ k. values_rest setting work.entry values k state.old) result state.new }
 {
     match work {
-        ForValues::Builtin(b) => call_builtin(alloc, b, values, state),
+        ForValues::Native(function) => call_native(alloc, function, values, state),
         ForValues::Assign(name, push, right) => Ok(Next {
             hand: Hand::Evaluate(right.as_ref()),
             waits: Some(Work::ForValue(ForValue::Assign(name, values, push))),
@@ -311,17 +312,17 @@ pub(crate) fn receive_values<'p>(
 }
 
 /// A built-in function takes its arguments.
-fn call_builtin<'p>(
+fn call_native<'p>(
     alloc: Global,
-    function: Builtin,
+    function: Native,
     values: Items<Value>,
-    state: &State,
+    state: &mut State,
 ) -> Result<Next<'p>, Halt>
     ensures { (setting : Setting)
-        → Leads (next_rest setting) (λ k. values_rest setting (any_values.Builtin function) values k state.now) result
-        state.now }
+        → Leads (next_rest setting) (λ k. values_rest setting (any_values.Native function) values k state.old) result
+        state.new }
 {
-    let made = builtin_call(alloc, function, values.as_slice(), state);
+    let made = native_call(alloc, function, values.as_slice(), state);
     drop(values);
     given(made)
 }

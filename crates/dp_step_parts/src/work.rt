@@ -2,7 +2,7 @@
 //! has read, and lends its tree.
 
 use dp_actions::{Reading, Signal};
-use dp_tree::{BinaryOp, Boxed, Builtin, Expression, Item, Link, Order, Place, UnaryOp};
+use dp_tree::{BinaryOp, Boxed, Expression, Item, Link, Native, Order, Place, UnaryOp};
 use dp_value::{Bytes, Items, Value};
 
 /// What a finished part gives to the one that waits for it.
@@ -73,7 +73,7 @@ pub enum ForValue<'p> {
 /// An expression that waits for values: arguments, or the indices of a place.
 #[derive(Drop)]
 pub enum ForValues<'p> {
-    Builtin(Builtin),
+    Native(Native),
     Assign(&'p Bytes, bool, &'p Boxed<Expression>),
     Compound(BinaryOp, &'p Bytes, &'p Boxed<Expression>),
     CoalesceAssign(&'p Bytes, &'p Boxed<Expression>),

@@ -1,6 +1,7 @@
 -- A statement by what is done first and what waits for it.
 use Rattle.std.proofs.Common.{◌≡◌, ℕ, ◌+◌, List, ◌∷◌, map, drop, length, get_or, ◌<◌, Option, sym, ap, ◌∙◌}
 use Rattle.dp_tree.specs.declared.tree.Arm.{Arm}
+use Rattle.dp_tree.specs.declared.tree.Definition.{Definition}
 use Rattle.dp_tree.specs.declared.tree.Expression.{Expression}
 use Rattle.dp_tree.specs.declared.tree.Place.{Place}
 use Rattle.dp_tree.specs.declared.tree.Statement.{Statement}
@@ -14,7 +15,7 @@ use Rattle.dp_actions.specs.Expressions.{evaluation, evaluations, expression_run
 use Rattle.dp_actions.specs.Run.{Run, At, and_then, taken, ◌>>=◌}
 use Rattle.dp_actions.specs.Setting.{Setting, Part}
 use Rattle.dp_actions.specs.inner.StatementParts.{kind_run}
-use Rattle.dp_actions.specs.Statements.{ArmRun, KindRun, body_run, branch, echoes, echoed, go_on, statement_run}
+use Rattle.dp_actions.specs.Statements.{ArmRun, KindRun, body_run, branch, constants_run, defined_then, echoes, echoed, go_on, statement_run}
 use Rattle.dp_actions.proofs.Runs.{and_then-assoc}
 use Rattle.dp_actions.specs.Places.{PlaceRun, unset_run}
 use Rattle.dp_actions.proofs.Layers.{run-place}
@@ -46,6 +47,12 @@ module _ (setting : Setting) (k : Follows) (s : State) where
       → (echoes (map expression_run (first ∷ rest)) setting s >>= to_signal k)
       ≡ (evaluation first setting s >>= λ v t. echoed (echoes (map expression_run rest) setting) v t >>= to_signal k)
   echo-first first rest = and_then-assoc _ _ _
+
+  pub constants-first : (first : Definition) (rest : List Definition)
+      → (constants_run (first ∷ rest) setting s >>= to_signal k)
+      ≡ (evaluation first.value setting s
+      >>= λ v t. defined_then first.name (constants_run rest setting) v t >>= to_signal k)
+  constants-first first rest = and_then-assoc _ _ _
 
   pub if-is : (statement : Statement) (arms : List Arm) (otherwise : Option Statement)
       → statement.kind ≡ kind.If arms otherwise

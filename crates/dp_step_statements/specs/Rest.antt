@@ -24,7 +24,8 @@ use Rattle.dp_actions.specs.Places.{unset_run}
 use Rattle.dp_actions.specs.Bodies.{leaving, left_call, left_file}
 use Rattle.dp_actions.specs.Run.{Run, Done, Over, At, taken, ◌>>=◌}
 use Rattle.dp_actions.specs.Setting.{Setting, Part}
-use Rattle.dp_actions.specs.Statements.{arms_run, body_run, echoed, echoes}
+use Rattle.dp_actions.specs.Statements.{arms_run, body_run, constants_run, defined_then}
+use Rattle.dp_actions.specs.Statements.{echoed, echoes}
 use Rattle.dp_actions.specs.Statements.{each_turns, go_on, statement_run}
 use Rattle.dp_actions.specs.Effects.{exit_run, with_globals}
 use Rattle.dp_actions.specs.Values.{holds}
@@ -167,6 +168,8 @@ hand_rest setting (hand.Arms arms at otherwise) k s =
     arms_part (drop at arms.now) otherwise.now setting s >>= to_signal k
 hand_rest setting (hand.Global names) k s = k (given.Signal Next) (with_globals names.now s)
 hand_rest setting (hand.Unset places) k s = unset_after setting places.now k s
+hand_rest setting (hand.Constants all at) k s =
+    constants_run (drop at all.now) setting s >>= to_signal k
 hand_rest setting (hand.Turn loop left) k s = turns_of setting loop left s >>= to_signal k
 hand_rest setting (hand.DoTurn loop left) k s = do_turns_of setting loop left s >>= to_signal k
 hand_rest setting (hand.EachTurn loop subject at) k s =
@@ -185,6 +188,8 @@ abbrev pub after_rest : Setting → AfterValue → Value → Follows → State �
 after_rest setting after_work.Discard v k s = next_to k v s
 after_rest setting (after_work.Echoed operands at) v k s =
     echoed (echoes (map expression_run (drop at operands.now)) setting) v s >>= to_signal k
+after_rest setting (after_work.Defined name all at) v k s =
+    defined_then name.now (constants_run (drop at all.now) setting) v s >>= to_signal k
 after_rest setting (after_work.Branch arms at otherwise) v k s =
     branch_of (drop at arms.now) otherwise.now setting v s >>= to_signal k
 after_rest setting after_work.ReturnIt v k s = to_signal k (Return v) s

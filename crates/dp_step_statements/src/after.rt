@@ -18,9 +18,12 @@ use crate::loops::{do_tested, entry_count, test_holds, tested};
 use crate::next::signal;
 use crate::statements::branch;
 use crate::work::{AfterValue, EachTurns, ForSignal, ForValues, Hand, Next, Work};
-use dp_actions::{Halt, Signal, bind_all, bind_entry, exit_value, holds, print_value, unset_place};
+use dp_actions::{
+    Halt, Signal, bind_all, bind_entry, define_constant, exit_value, holds, print_value,
+    unset_place,
+};
 use dp_state::State;
-use dp_tree::{Binding, Expression, Place};
+use dp_tree::{Binding, Definition, Expression, Place};
 use dp_value::{Bytes, Items, Value};
 use std::alloc::Global;
 
@@ -40,6 +43,7 @@ pub(crate) fn receive_after<'p>(
             Ok(signal(Signal::Next))
         }
         AfterValue::Echoed(rest, at) => echoed(alloc, value, rest, at, state),
+        AfterValue::Defined(name, rest, at) => defined(name, value, rest, at, state),
         AfterValue::Branch(arms, at, otherwise) => { Ok(branch(arms, at, otherwise, holds(value))) }
         AfterValue::ReturnIt => Ok(signal(Signal::Return(value))),
         AfterValue::ExitWith => exit_with(value, state),
@@ -96,6 +100,27 @@ fn echoed<'p>(
     match done {
         Ok(()) => Ok(Next {
             hand: Hand::Echo(rest, at),
+            waits: None,
+        }),
+        Err(why) => Err(why),
+    }
+}
+
+/// A constant of a `const` is defined.
+fn defined<'p>(
+    name: &'p Bytes,
+    value: Value,
+    rest: &'p Items<Definition>,
+    at: usize,
+    state: &mut State,
+) -> Result<Next<'p>, Halt>
+    ensures { (setting : Setting)
+        → Leads (next_rest setting) (λ k. after_rest setting (any_after.Defined name.entry rest.entry at) value k
+        state.old) result state.new }
+{
+    match define_constant(name, value, state) {
+        Ok(()) => Ok(Next {
+            hand: Hand::Constants(rest, at),
             waits: None,
         }),
         Err(why) => Err(why),

@@ -33,7 +33,7 @@ pub(crate) fn begin_call<'p>(
     match look_up(bundle, name, state) {
         None => Err(fatal(FatalKind::NoFunction, state)),
         Some(Callee::BuiltIn(function)) => {
-            let work = Work::Part(PartWork::ForValues(PartValues::Builtin(function)));
+            let work = Work::Part(PartWork::ForValues(PartValues::Native(function)));
             Ok(values_first(alloc, arguments, work))
         }
         Some(Callee::Declared { file, function }) => {

@@ -19,7 +19,7 @@ use crate::after::{bind, global, receive_after, receive_values};
 use crate::calls::{begin_call, include};
 use crate::loops::{do_turn, each_turn, receive_signal, turn};
 use crate::next::give;
-use crate::statements::{arms, begin, begin_arm, begin_at, each, echo, unset};
+use crate::statements::{arms, begin, begin_arm, begin_at, constants, each, echo, unset};
 use crate::work::{AfterValue, ForSignal, ForValues, Hand, Next, Small, Work};
 use dp_actions::{Halt, Signal, returned};
 use dp_state::State;
@@ -148,6 +148,10 @@ fn first_of_statement<'p>(
         Hand::Unset(rest) => Ok(Small {
             moment: None,
             next: unset(alloc, rest),
+        }),
+        Hand::Constants(all, at) => Ok(Small {
+            moment: None,
+            next: constants(all, at),
         }),
         hand => first_of_turn(alloc, hand, state),
     }

@@ -7,7 +7,7 @@ ghost use Rattle.dp_actions.specs.Expressions.{expression_run, place_run};
 ghost use Rattle.dp_actions.specs.Places.{unset_run};
 ghost use Rattle.dp_actions.specs.Run.{and_then};
 ghost use Rattle.dp_actions.specs.Setting.{Setting};
-ghost use Rattle.dp_actions.specs.Statements.{body_run, echoes, end_run, return_run, statement_run};
+ghost use Rattle.dp_actions.specs.Statements.{body_run, constants_run, echoes, end_run, return_run, statement_run};
 ghost use Rattle.dp_step_statements.specs.Rest.{arms_part, branch_decided, first_body_run, first_run};
 ghost use Rattle.dp_step_statements.specs.Rest.{next_rest, next_to, small_rest};
 ghost use Rattle.dp_step_statements.specs.declared.work.Hand.TheVariants as any_hand;
@@ -22,7 +22,7 @@ use crate::work::{
 use dp_actions::Signal;
 use dp_state::{MomentKind, Outcome};
 use dp_step_parts::Hand as PartHand;
-use dp_tree::{Arm, Boxed, Expression, Place, Statement, StatementKind};
+use dp_tree::{Arm, Boxed, Definition, Expression, Place, Statement, StatementKind};
 use dp_value::{Items, Value};
 use std::alloc::Global;
 
@@ -110,6 +110,7 @@ pub(crate) fn begin<'p>(alloc: Global, bound: u64, statement: &'p Statement) -> 
         StatementKind::Return(value) => placed(line, return_value(value)),
         StatementKind::Global(names) => placed(line, alone(Hand::Global(names.as_slice()))),
         StatementKind::Unset(places) => placed(line, alone(Hand::Unset(places.as_slice()))),
+        StatementKind::Constants(all) => placed(line, alone(Hand::Constants(all, 0))),
         StatementKind::Exit(value) => placed(line, exit(value)),
     }
 }
@@ -203,6 +204,20 @@ pub(crate) fn echo<'p>(all: &'p Items<Expression>, at: usize) -> Next<'p>
         Some(first) => Next {
             hand: Hand::Part(PartHand::Evaluate(first)),
             waits: Some(Work::AfterValue(AfterValue::Echoed(all, at + 1))),
+        },
+    }
+}
+
+/// The constants that a `const` defines from a position on.
+pub(crate) fn constants<'p>(all: &'p Items<Definition>, at: usize) -> Next<'p>
+    ensures { (setting : Setting) (k : Follows) (s : AnyState)
+        → next_rest setting result k s ≡ and_then (constants_run (drop at all.now) setting s) (to_signal k) }
+{
+    match all.as_slice().get(at) {
+        None => signal(Signal::Next),
+        Some(first) => Next {
+            hand: Hand::Part(PartHand::Evaluate(&first.value)),
+            waits: Some(Work::AfterValue(AfterValue::Defined(&first.name, all, at + 1))),
         },
     }
 }

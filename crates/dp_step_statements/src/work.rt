@@ -4,7 +4,7 @@
 use dp_actions::Signal;
 use dp_state::{MomentKind, Outcome};
 use dp_step_parts::{Hand as PartHand, Work as PartWork};
-use dp_tree::{Arm, Binding, Boxed, Expression, Function, Inclusion, Place, Statement};
+use dp_tree::{Arm, Binding, Boxed, Definition, Expression, Function, Inclusion, Place, Statement};
 use dp_value::{Bytes, Items, Value};
 
 /// What stands at the head of a loop of turns.
@@ -65,6 +65,8 @@ pub enum Hand<'p> {
     Global(&'p [Bytes]),
     /// The places of an `unset` that are left.
     Unset(&'p [Place]),
+    /// The constants that a `const` defines.
+    Constants(&'p Items<Definition>, usize),
     /// At most so many turns.
     Turn(Turns<'p>, u64),
     /// At most so many turns.
@@ -90,6 +92,8 @@ pub enum AfterValue<'p> {
     Discard,
     /// An operand of an `echo`, and those from a position on.
     Echoed(&'p Items<Expression>, usize),
+    /// The value of the constant of a name, and those from a position on.
+    Defined(&'p Bytes, &'p Items<Definition>, usize),
     /// The test of the arm at a position, and what is done where no test holds.
     Branch(&'p Items<Arm>, usize, &'p Option<Boxed<Statement>>),
     /// The value of a `return`.

@@ -7,7 +7,7 @@ use Rattle.dp_lexer.specs.declared.token.TokenKind.TheVariants as kind
 use Rattle.dp_lexer.specs.Keywords.{is_reserved}
 use Rattle.dp_token_rules.specs.declared.terminal.Terminal.{Terminal}
 use Rattle.dp_token_rules.specs.declared.terminal.Terminal.TheVariants as terminal
-use Rattle.dp_token_rules.specs.Terminals.{terminal_of, is, is_superglobal, head}
+use Rattle.dp_token_rules.specs.Terminals.{terminal_of, reserved_terminal, is, is_superglobal, head}
 use Rattle.dp_token_rules.specs.inner.Input.{Outcome, Reader, ◌>>=◌, ◌>>◌, one, enter}
 use Rattle.dp_token_rules.specs.Rules.{One, Nests}
 use Rattle.dp_token_rules.specs.TokenValues.{Text, unless, variable_in, name_in, number_in, text_in, by_terminal, by_kind}
@@ -45,7 +45,8 @@ variable_sort _ a e = absurd (cc)
 name_sort : (k : TokenKind) (a : Text) → name_in k ≡ Some a → is terminal.Name (terminal_of k) ≡ true
 name_sort (kind.Name name) a e = go (is_reserved name) e
   where
-    go : (b : Bool) → unless b name ≡ Some a → is terminal.Name (cond b terminal.Reserved terminal.Name) ≡ true
+    go : (b : Bool) → unless b name ≡ Some a
+        → is terminal.Name (cond b (reserved_terminal name) terminal.Name) ≡ true
     go true e = absurd (cc)
     go false e = refl
 name_sort _ a e = absurd (cc)
@@ -69,26 +70,6 @@ text_starts = one_starts (by_kind text_in) (is terminal.Text) (λ t a e. of t.ki
     of : (k : TokenKind) (a : Text) → text_in k ≡ Some a → is terminal.Text (terminal_of k) ≡ true
     of (kind.Text bytes) a e = refl
     of _ a e = absurd (cc)
-
--- a token that is a function's name
-pub name_token : (x : Token) → is terminal.Name (terminal_of x.kind) ≡ true
-    → (name : Text) × One (by_kind name_in) (x ∷ []) name
-name_token x e = let n = of x.kind e in (n.0, record { symbol = x; alone = refl; is_worth = n.1 })
-  where
-    by_name : (name : Text) (b : Bool) → is_reserved name ≡ b
-        → is terminal.Name (cond b terminal.Reserved terminal.Name) ≡ true
-        → (n : Text) × (name_in (kind.Name name) ≡ Some n)
-    by_name name true reserved e = absurd (cc)
-    by_name name false reserved e = (name, ap (λ b. unless b name) reserved)
-
-    superglobal : (b : Bool) → is terminal.Name (cond b terminal.Superglobal terminal.Variable) ≡ true → ⊥
-    superglobal true e = absurd (cc)
-    superglobal false e = absurd (cc)
-
-    of : (k : TokenKind) → is terminal.Name (terminal_of k) ≡ true → (n : Text) × (name_in k ≡ Some n)
-    of (kind.Name name) e = by_name name (is_reserved name) refl e
-    of (kind.Variable name) e = absurd (superglobal (is_superglobal name) e)
-    of _ e = absurd (cc)
 
 -- ---- one after the other
 

@@ -1,11 +1,12 @@
 -- Sorts of tokens told apart, and a token of each sort.
 use Rattle.std.specs.List.{list_all}
-use Rattle.std.proofs.Common.{◌≡◌, inl, inr, ℕ, zero, suc, Bool, true, false, not, ◌||◌, List, [], ◌∷◌, get_or, Some, None, sym, refl, ap, ◌∙◌, cond, eqb-true, eq-eqb}
+use Rattle.std.specs.Str.{str_eq_ignore_ascii_case}
+use Rattle.std.proofs.Common.{◌≡◌, inl, inr, ℕ, zero, suc, Bool, true, false, not, ◌||◌, List, [], ◌∷◌, codes, get_or, Some, None, sym, refl, ap, ◌∙◌, cond, eqb-true, eq-eqb}
 use Rattle.dp_lexer.specs.declared.token.Token.{Token}
 use Rattle.dp_lexer.specs.declared.token.TokenKind.{TokenKind}
 use Rattle.dp_token_rules.specs.declared.terminal.Terminal.{Terminal}
 use Rattle.dp_token_rules.specs.declared.terminal.Terminal.TheVariants as terminal
-use Rattle.dp_token_rules.specs.Terminals.{terminal_of, number_of, same_terminal, is, head}
+use Rattle.dp_token_rules.specs.Terminals.{terminal_of, reserved_terminal, number_of, same_terminal, is, head}
 use Rattle.dp_token_rules.specs.Rules.{line_at, Mark}
 pub use Rattle.dp_grammar.proofs.Truth.{and_parts, both, not_true, not_false, or_left, or_right, or_false, or_cases}
 
@@ -40,18 +41,18 @@ within_or s t u one other x is = elim (or_cases (s x) (t x) is) [ inl h ↦ one 
 abbrev pub all_terminals : List Terminal
 all_terminals =
     terminal.End ∷ terminal.Variable ∷ terminal.Superglobal ∷ terminal.Name ∷ terminal.Reserved ∷ terminal.Number
-    ∷ terminal.Text ∷ terminal.Array ∷ terminal.As ∷ terminal.Break ∷ terminal.Continue ∷ terminal.Die ∷ terminal.Do
-    ∷ terminal.Echo ∷ terminal.Else ∷ terminal.ElseIf ∷ terminal.Exit ∷ terminal.False ∷ terminal.For ∷ terminal.Foreach
-    ∷ terminal.Function ∷ terminal.Global ∷ terminal.If ∷ terminal.Include ∷ terminal.Isset ∷ terminal.Null
-    ∷ terminal.Require ∷ terminal.Return ∷ terminal.True ∷ terminal.Unset ∷ terminal.While ∷ terminal.Identical
-    ∷ terminal.NotIdentical ∷ terminal.Spaceship ∷ terminal.CoalesceAssign ∷ terminal.Equal ∷ terminal.NotEqual
-    ∷ terminal.LessOrEqual ∷ terminal.GreaterOrEqual ∷ terminal.BothOf ∷ terminal.EitherOf ∷ terminal.Coalesce
-    ∷ terminal.Increment ∷ terminal.Decrement ∷ terminal.AddAssign ∷ terminal.SubtractAssign ∷ terminal.MultiplyAssign
-    ∷ terminal.ConcatAssign ∷ terminal.RemainderAssign ∷ terminal.Arrow ∷ terminal.Assign ∷ terminal.Less
-    ∷ terminal.Greater ∷ terminal.Plus ∷ terminal.Minus ∷ terminal.Star ∷ terminal.Percent ∷ terminal.Dot
-    ∷ terminal.Bang ∷ terminal.Question ∷ terminal.Colon ∷ terminal.Comma ∷ terminal.Semicolon
-    ∷ terminal.OpenParenthesis ∷ terminal.CloseParenthesis ∷ terminal.OpenBracket ∷ terminal.CloseBracket
-    ∷ terminal.OpenBrace ∷ terminal.CloseBrace ∷ []
+    ∷ terminal.Text ∷ terminal.Array ∷ terminal.As ∷ terminal.Break ∷ terminal.Const ∷ terminal.Continue
+    ∷ terminal.Die ∷ terminal.Do ∷ terminal.Echo ∷ terminal.Else ∷ terminal.ElseIf ∷ terminal.Exit ∷ terminal.False
+    ∷ terminal.For ∷ terminal.Foreach ∷ terminal.Function ∷ terminal.Global ∷ terminal.If ∷ terminal.Include
+    ∷ terminal.Isset ∷ terminal.Null ∷ terminal.Require ∷ terminal.Return ∷ terminal.True ∷ terminal.Unset
+    ∷ terminal.While ∷ terminal.Identical ∷ terminal.NotIdentical ∷ terminal.Spaceship ∷ terminal.CoalesceAssign
+    ∷ terminal.Equal ∷ terminal.NotEqual ∷ terminal.LessOrEqual ∷ terminal.GreaterOrEqual ∷ terminal.BothOf
+    ∷ terminal.EitherOf ∷ terminal.Coalesce ∷ terminal.Increment ∷ terminal.Decrement ∷ terminal.AddAssign
+    ∷ terminal.SubtractAssign ∷ terminal.MultiplyAssign ∷ terminal.ConcatAssign ∷ terminal.RemainderAssign
+    ∷ terminal.Arrow ∷ terminal.Assign ∷ terminal.Less ∷ terminal.Greater ∷ terminal.Plus ∷ terminal.Minus
+    ∷ terminal.Star ∷ terminal.Percent ∷ terminal.Dot ∷ terminal.Bang ∷ terminal.Question ∷ terminal.Colon
+    ∷ terminal.Comma ∷ terminal.Semicolon ∷ terminal.OpenParenthesis ∷ terminal.CloseParenthesis
+    ∷ terminal.OpenBracket ∷ terminal.CloseBracket ∷ terminal.OpenBrace ∷ terminal.CloseBrace ∷ []
 
 abbrev terminal_at : ℕ → Terminal
 terminal_at n = get_or all_terminals n terminal.End
@@ -67,6 +68,7 @@ at_number terminal.Text = refl
 at_number terminal.Array = refl
 at_number terminal.As = refl
 at_number terminal.Break = refl
+at_number terminal.Const = refl
 at_number terminal.Continue = refl
 at_number terminal.Die = refl
 at_number terminal.Do = refl
@@ -185,6 +187,15 @@ excluded t u all s is =
     go false e = refl
 
 -- ---- tokens
+
+-- a test that no reserved word passes
+pub reserved_fails : (t : Terminal → Bool) (name : List ℕ) → t terminal.Const ≡ false → t terminal.Reserved ≡ false
+    → t (reserved_terminal name) ≡ false
+reserved_fails t name const other = go (str_eq_ignore_ascii_case name (codes "const"))
+  where
+    go : (b : Bool) → t (cond b terminal.Const terminal.Reserved) ≡ false
+    go true = const
+    go false = other
 
 -- a token of this kind, somewhere on the first line
 abbrev pub placed : TokenKind → Token

@@ -1,6 +1,6 @@
 -- The sorts of tokens.
 use Rattle.std.specs.Prelude.{ℕ, Bool, ◌||◌, if◌then◌else◌, nat_eq, List, Option, Some, None, codes}
-use Rattle.std.specs.Str.{bytes_eq}
+use Rattle.std.specs.Str.{bytes_eq, str_eq_ignore_ascii_case}
 use Rattle.dp_lexer.specs.declared.token.Token.{Token}
 use Rattle.dp_lexer.specs.declared.token.TokenKind.{TokenKind}
 use Rattle.dp_lexer.specs.declared.token.TokenKind.TheVariants as kind
@@ -13,10 +13,16 @@ use Rattle.dp_token_rules.specs.declared.terminal.Terminal.TheVariants as termin
 abbrev pub is_superglobal : List ℕ → Bool
 is_superglobal name = bytes_eq name (codes "this") || bytes_eq name (codes "GLOBALS")
 
+-- `const` is a name to the lexer, in any case of letters
+abbrev pub reserved_terminal : List ℕ → Terminal
+reserved_terminal name =
+    if str_eq_ignore_ascii_case name (codes "const") then terminal.Const else terminal.Reserved
+
 abbrev pub terminal_of : TokenKind → Terminal
 terminal_of (kind.Variable name) =
     if is_superglobal name then terminal.Superglobal else terminal.Variable
-terminal_of (kind.Name name) = if is_reserved name then terminal.Reserved else terminal.Name
+terminal_of (kind.Name name) =
+    if is_reserved name then reserved_terminal name else terminal.Name
 terminal_of (kind.Number _) = terminal.Number
 terminal_of (kind.Text _) = terminal.Text
 terminal_of kind.Array = terminal.Array
@@ -93,65 +99,66 @@ number_of terminal.Text = 6
 number_of terminal.Array = 7
 number_of terminal.As = 8
 number_of terminal.Break = 9
-number_of terminal.Continue = 10
-number_of terminal.Die = 11
-number_of terminal.Do = 12
-number_of terminal.Echo = 13
-number_of terminal.Else = 14
-number_of terminal.ElseIf = 15
-number_of terminal.Exit = 16
-number_of terminal.False = 17
-number_of terminal.For = 18
-number_of terminal.Foreach = 19
-number_of terminal.Function = 20
-number_of terminal.Global = 21
-number_of terminal.If = 22
-number_of terminal.Include = 23
-number_of terminal.Isset = 24
-number_of terminal.Null = 25
-number_of terminal.Require = 26
-number_of terminal.Return = 27
-number_of terminal.True = 28
-number_of terminal.Unset = 29
-number_of terminal.While = 30
-number_of terminal.Identical = 31
-number_of terminal.NotIdentical = 32
-number_of terminal.Spaceship = 33
-number_of terminal.CoalesceAssign = 34
-number_of terminal.Equal = 35
-number_of terminal.NotEqual = 36
-number_of terminal.LessOrEqual = 37
-number_of terminal.GreaterOrEqual = 38
-number_of terminal.BothOf = 39
-number_of terminal.EitherOf = 40
-number_of terminal.Coalesce = 41
-number_of terminal.Increment = 42
-number_of terminal.Decrement = 43
-number_of terminal.AddAssign = 44
-number_of terminal.SubtractAssign = 45
-number_of terminal.MultiplyAssign = 46
-number_of terminal.ConcatAssign = 47
-number_of terminal.RemainderAssign = 48
-number_of terminal.Arrow = 49
-number_of terminal.Assign = 50
-number_of terminal.Less = 51
-number_of terminal.Greater = 52
-number_of terminal.Plus = 53
-number_of terminal.Minus = 54
-number_of terminal.Star = 55
-number_of terminal.Percent = 56
-number_of terminal.Dot = 57
-number_of terminal.Bang = 58
-number_of terminal.Question = 59
-number_of terminal.Colon = 60
-number_of terminal.Comma = 61
-number_of terminal.Semicolon = 62
-number_of terminal.OpenParenthesis = 63
-number_of terminal.CloseParenthesis = 64
-number_of terminal.OpenBracket = 65
-number_of terminal.CloseBracket = 66
-number_of terminal.OpenBrace = 67
-number_of terminal.CloseBrace = 68
+number_of terminal.Const = 10
+number_of terminal.Continue = 11
+number_of terminal.Die = 12
+number_of terminal.Do = 13
+number_of terminal.Echo = 14
+number_of terminal.Else = 15
+number_of terminal.ElseIf = 16
+number_of terminal.Exit = 17
+number_of terminal.False = 18
+number_of terminal.For = 19
+number_of terminal.Foreach = 20
+number_of terminal.Function = 21
+number_of terminal.Global = 22
+number_of terminal.If = 23
+number_of terminal.Include = 24
+number_of terminal.Isset = 25
+number_of terminal.Null = 26
+number_of terminal.Require = 27
+number_of terminal.Return = 28
+number_of terminal.True = 29
+number_of terminal.Unset = 30
+number_of terminal.While = 31
+number_of terminal.Identical = 32
+number_of terminal.NotIdentical = 33
+number_of terminal.Spaceship = 34
+number_of terminal.CoalesceAssign = 35
+number_of terminal.Equal = 36
+number_of terminal.NotEqual = 37
+number_of terminal.LessOrEqual = 38
+number_of terminal.GreaterOrEqual = 39
+number_of terminal.BothOf = 40
+number_of terminal.EitherOf = 41
+number_of terminal.Coalesce = 42
+number_of terminal.Increment = 43
+number_of terminal.Decrement = 44
+number_of terminal.AddAssign = 45
+number_of terminal.SubtractAssign = 46
+number_of terminal.MultiplyAssign = 47
+number_of terminal.ConcatAssign = 48
+number_of terminal.RemainderAssign = 49
+number_of terminal.Arrow = 50
+number_of terminal.Assign = 51
+number_of terminal.Less = 52
+number_of terminal.Greater = 53
+number_of terminal.Plus = 54
+number_of terminal.Minus = 55
+number_of terminal.Star = 56
+number_of terminal.Percent = 57
+number_of terminal.Dot = 58
+number_of terminal.Bang = 59
+number_of terminal.Question = 60
+number_of terminal.Colon = 61
+number_of terminal.Comma = 62
+number_of terminal.Semicolon = 63
+number_of terminal.OpenParenthesis = 64
+number_of terminal.CloseParenthesis = 65
+number_of terminal.OpenBracket = 66
+number_of terminal.CloseBracket = 67
+number_of terminal.OpenBrace = 68
+number_of terminal.CloseBrace = 69
 
 abbrev pub same_terminal : Terminal → Terminal → Bool
 same_terminal a b = nat_eq (number_of a) (number_of b)

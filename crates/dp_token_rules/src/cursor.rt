@@ -1,6 +1,6 @@
 //! A cursor over tokens.
 
-ghost use Rattle.std.specs.Prelude.{◌≡◌, ◌^◌, ◌<◌, length, OnOk};
+ghost use Rattle.std.specs.Prelude.{◌≡◌, ◌^◌, ◌<◌, drop, length, take, OnOk};
 ghost use Rattle.dp_token_rules.specs.inner.Input as input;
 ghost use Rattle.dp_token_rules.specs.inner.Input.{Reads, ReadsSlice, Surely};
 ghost use Rattle.dp_token_rules.specs.Lines.{line_of};
@@ -101,6 +101,24 @@ impl<'a> Tokens<'a> {
             },
             [] => Err(self.refuse()),
         }
+    }
+
+    /// The first of these tokens, at most so many.
+    #[tactic(auto, using(std::proofs::lemmas::List::take_min))]
+    pub fn front(&self, count: usize) -> Tokens<'a>
+        ensures { result ≡ take count self.now }
+    {
+        let most = count.min(self.rest.len());
+        Tokens::new(&self.rest[..most])
+    }
+
+    /// Takes so many tokens off the front, or all if there are fewer.
+    #[tactic(auto, using(std::proofs::lemmas::List::drop_min))]
+    pub fn skip(&mut self, count: usize)
+        ensures { self.new ≡ drop count self.old }
+    {
+        let most = count.min(self.rest.len());
+        *self = Tokens::new(&self.rest[most..]);
     }
 
     /// The refusal that names the next token, or the end.

@@ -14,15 +14,16 @@ pub enum Terminal {
     Variable,
     /// `$this` or `$GLOBALS`.
     Superglobal,
-    /// A name that a function may have.
+    /// A name that a function or a constant may have.
     Name,
-    /// A reserved word that is no keyword of the grammar.
+    /// A reserved word that the grammar does not use.
     Reserved,
     Number,
     Text,
     Array,
     As,
     Break,
+    Const,
     Continue,
     Die,
     Do,
@@ -91,6 +92,17 @@ pub fn is_superglobal(name: &[u8]) -> bool
     name == b"this".as_slice() || name == b"GLOBALS".as_slice()
 }
 
+/// What sort of token this reserved word is, which is no keyword of the lexer.
+fn reserved_terminal(name: &[u8]) -> Terminal
+    ensures { result ≡ spec.reserved_terminal name.now }
+{
+    if name.eq_ignore_ascii_case(b"const") {
+        Terminal::Const
+    } else {
+        Terminal::Reserved
+    }
+}
+
 /// What sort of token this is.
 pub(crate) fn terminal_of(kind: &TokenKind) -> Terminal
     ensures { result ≡ spec.terminal_of kind.now }
@@ -98,7 +110,7 @@ pub(crate) fn terminal_of(kind: &TokenKind) -> Terminal
     match kind {
         TokenKind::Variable(name) if is_superglobal(name.as_slice()) => Terminal::Superglobal,
         TokenKind::Variable(_) => Terminal::Variable,
-        TokenKind::Name(name) if is_reserved(name.as_slice()) => Terminal::Reserved,
+        TokenKind::Name(name) if is_reserved(name.as_slice()) => reserved_terminal(name.as_slice()),
         TokenKind::Name(_) => Terminal::Name,
         TokenKind::Number(_) => Terminal::Number,
         TokenKind::Text(_) => Terminal::Text,

@@ -51,6 +51,7 @@ kind_name kinds.TooDeep = codes "TooDeep"
 kind_name kinds.NoFile = codes "NoFile"
 kind_name kinds.Scalar = codes "Scalar"
 kind_name kinds.OutputFull = codes "OutputFull"
+kind_name kinds.NoConstant = codes "NoConstant"
 
 -- the line on a fatal fault: its name, the file, and the line there
 abbrev pub fatal_line : List ℕ → List ℕ → ℕ → List ℕ

@@ -274,6 +274,7 @@ fn kind_name(kind: FatalKind) -> &'static [u8]
         FatalKind::NoFile => b"NoFile",
         FatalKind::Scalar => b"Scalar",
         FatalKind::OutputFull => b"OutputFull",
+        FatalKind::NoConstant => b"NoConstant",
     }
 }
 

@@ -35,6 +35,7 @@ kind_layer (StatementKind-F.Continue loops) line = line ∷ []
 kind_layer (StatementKind-F.Return value) line = line ∷ []
 kind_layer (StatementKind-F.Global names) line = line ∷ []
 kind_layer (StatementKind-F.Unset places) line = line ∷ []
+kind_layer (StatementKind-F.Constants all) line = line ∷ []
 kind_layer (StatementKind-F.Exit value) line = line ∷ []
 
 -- a test stands on the line of its `if`, `elseif` or `else if`

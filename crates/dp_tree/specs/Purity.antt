@@ -26,6 +26,7 @@ expression_layer (Expression-F.Bool _) = true
 expression_layer (Expression-F.Number _) = true
 expression_layer (Expression-F.Text _) = true
 expression_layer (Expression-F.Variable _) = true
+expression_layer (Expression-F.Constant _) = true
 expression_layer (Expression-F.Array items) = all_pure items
 expression_layer (Expression-F.Call name arguments) = false
 expression_layer (Expression-F.Isset places) = all_pure places

@@ -21,9 +21,9 @@ pub use doubles::first_double;
 pub use indexed::Files;
 pub use lines::has_code;
 pub use names::AnyCase;
-pub use operators::{BinaryOp, Builtin, UnaryOp};
+pub use operators::{BinaryOp, Builtin, Native, UnaryOp};
 pub use purity::is_pure;
 pub use tree::{
-    Arm, Binding, Expression, File, Function, Inclusion, Item, Link, Operator, Order, Place,
-    Statement, StatementKind,
+    Arm, Binding, Definition, Expression, File, Function, Inclusion, Item, Link, Operator, Order,
+    Place, Statement, StatementKind,
 };

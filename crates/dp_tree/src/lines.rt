@@ -94,6 +94,7 @@ fn kind_has(kind: &StatementKind, first: u32, line: u32) -> bool
         | StatementKind::Return(_)
         | StatementKind::Global(_)
         | StatementKind::Unset(_)
+        | StatementKind::Constants(_)
         | StatementKind::Exit(_) => first == line,
     }
 }

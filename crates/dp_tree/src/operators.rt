@@ -29,7 +29,7 @@ pub enum UnaryOp {
     Decrement,
 }
 
-/// The functions that are there without a declaration.
+/// The functions whose value their arguments alone tell, and which are there without a declaration.
 #[derive(Clone, Copy, Debug, PartialEq, Eq, Hash)]
 pub enum Builtin {
     StrLen,
@@ -47,4 +47,15 @@ pub enum Builtin {
     IsBool,
     IsNull,
     IsArray,
+}
+
+/// The functions that are there without a declaration: those of a table, and those that ask for the constants of the
+/// program.
+#[derive(Clone, Copy, Debug, PartialEq, Eq, Hash)]
+pub enum Native {
+    Table(Builtin),
+    /// Defines a constant.
+    Define,
+    /// Whether there is a constant.
+    Defined,
 }

@@ -20,7 +20,8 @@ pub fn is_pure(e: &Expression) -> bool
         | Expression::Bool(_)
         | Expression::Number(_)
         | Expression::Text(_)
-        | Expression::Variable(_) => true,
+        | Expression::Variable(_)
+        | Expression::Constant(_) => true,
         Expression::Array(items) => items_are_pure(items.as_slice()),
         Expression::Isset(places) => places_are_pure(places.as_slice()),
         Expression::Index(base, indices) => is_pure(base.as_ref()) && all_pure(indices.as_slice()),

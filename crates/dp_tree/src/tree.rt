@@ -71,6 +71,8 @@ pub enum StatementKind {
     Return(Option<Expression>),
     Global(Items<Bytes>),
     Unset(Items<Place>),
+    /// `const`
+    Constants(Items<Definition>),
     Exit(Option<Expression>),
 }
 
@@ -88,6 +90,13 @@ pub struct Arm {
 pub struct Binding {
     pub key: Option<Bytes>,
     pub value: Bytes,
+}
+
+/// A constant that a `const` defines: its name, and its value.
+#[derive(Debug, Drop)]
+pub struct Definition {
+    pub name: Bytes,
+    pub value: Expression,
 }
 
 /// What can be assigned to: a variable, or an entry of it under indices. The name is without its `$`.
@@ -147,6 +156,7 @@ pub enum Expression {
     Number(i64),
     Text(Bytes),
     Variable(Bytes),
+    Constant(Bytes),
     Array(Items<Item>),
     /// A call: the name as written, and the arguments.
     Call(Bytes, Items<Expression>),

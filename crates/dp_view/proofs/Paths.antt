@@ -130,39 +130,41 @@ last_of (k ∷ l ∷ keys) key =
 -- ---- one level down
 
 -- what is shown of an entry is what is shown of its path
-entry_is : (path : Path) (p : Paging) (levels : ℕ) (e : Key × Data) → p.depth ≡ suc levels
-    → entry_property p (nested p levels) (Some (full_name path)) e ≡ path_property (with_keys path (e.0 ∷ []))
+entry_is : (id : ℕ) (path : Path) (p : Paging) (levels : ℕ) (e : Key × Data) → p.depth ≡ suc levels
+    → entry_property p (nested p levels) (Some (full_name id path)) e ≡ path_property id (with_keys path (e.0 ∷ []))
     (deeper 1 p) e.1
-entry_is path p levels e deep =
+entry_is id path p levels e deep =
     let further : Path = with_key path e.0 in
     let less : levels ≡ (deeper 1 p).depth = omega (arith, deep) in
-    let own : key_text e.0 ≡ own_name further = ap (λ k. option_map_or key_text k (variable_name path.name))
+    let own : key_text e.0 ≡ own_name id further =
+    ap (λ k. option_map_or key_text k (variable_name id path.name))
     (sym (last_of path.keys e.0)) in
-    let full : entry_name (Some (full_name path)) e.0 ≡ Some (full_name further) = entry_full_name path e.0 in
-    let shapes : shape_of p 0 (nested p levels (entry_name (Some (full_name path)) e.0)) e.1 ≡ shape_of (deeper 1 p) 0
-    (nested (deeper 1 p) (deeper 1 p).depth (Some (full_name further))) e.1 =
+    let full : entry_name (Some (full_name id path)) e.0 ≡ Some (full_name id further) =
+    entry_full_name id path e.0 in
+    let shapes : shape_of p 0 (nested p levels (entry_name (Some (full_name id path)) e.0)) e.1
+    ≡ shape_of (deeper 1 p) 0 (nested (deeper 1 p) (deeper 1 p).depth (Some (full_name id further))) e.1 =
     ap (λ n. shape_of p 0 (nested p levels n) e.1) full
     ∙ sym (shape_both p (deeper 1 p) refl refl levels (nested_same p (deeper 1 p) refl refl levels)
-    (Some (full_name further)) e.1)
-    ∙ ap (λ n. shape_of (deeper 1 p) 0 (nested (deeper 1 p) n (Some (full_name further))) e.1) less in
+    (Some (full_name id further)) e.1)
+    ∙ ap (λ n. shape_of (deeper 1 p) 0 (nested (deeper 1 p) n (Some (full_name id further))) e.1) less in
     λ i. record { name = Some (own i); fullname = full i; shape = shapes i }
 
 -- a property in one of a path
-record IsBelow (path : Path) (p : Paging) (d : Data) (q : Property) : Type 0 where
+record IsBelow (id : ℕ) (path : Path) (p : Paging) (d : Data) (q : Property) : Type 0 where
   key : Key
   value : Data
   there : entry_of key d ≡ Some value
   keyed : IsKeyed p.children 0 (p.depth - 1) value
-  same : q ≡ path_property (with_keys path (key ∷ [])) (deeper 1 p) value
+  same : q ≡ path_property id (with_keys path (key ∷ [])) (deeper 1 p) value
 
-in_array : (es : Entries) (largest : Option ℤ) (path : Path) (p : Paging) (levels at : ℕ) (q : Property)
+in_array : (es : Entries) (largest : Option ℤ) (id : ℕ) (path : Path) (p : Paging) (levels at : ℕ) (q : Property)
     → p.depth ≡ levels → IsKeyed p.children p.page levels (array es largest)
-    → slice_get (nested p levels (Some (full_name path)) (page_of p.page p.children (pairs_of es))) at ≡ Some q
-    → IsBelow path p (array es largest) q
-in_array es largest path p zero at q deep keyed h = absurd cc
-in_array es largest path p (suc levels) at q deep keyed h =
+    → slice_get (nested p levels (Some (full_name id path)) (page_of p.page p.children (pairs_of es))) at ≡ Some q
+    → IsBelow id path p (array es largest) q
+in_array es largest id path p zero at q deep keyed h = absurd cc
+in_array es largest id path p (suc levels) at q deep keyed h =
     let page : List (Key × Data) = page_of p.page p.children (pairs_of es) in
-    let f : Key × Data → Property = entry_property p (nested p levels) (Some (full_name path)) in
+    let f : Key × Data → Property = entry_property p (nested p levels) (Some (full_name id path)) in
     let m = mapped_at f (slice_get page at) q (sym (slice_get-map f page at) ∙ h) in
     let e : Key × Data = m.0 in
     let here = page_at p.page p.children (pairs_of es) at e m.1 in
@@ -176,7 +178,7 @@ in_array es largest path p (suc levels) at q deep keyed h =
       keyed =
           subst (λ n. IsKeyed p.children 0 n e.1) less (keyed.1 (p.page * p.children + at) e (omega arith)
           (omega (arith, here.0)) here.1);
-      same = m.2 ∙ entry_is path p levels e deep;
+      same = m.2 ∙ entry_is id path p levels e deep;
     }
 
 -- the layer of a shape that was made of it
@@ -191,22 +193,23 @@ in_none s layer at q rolls none h =
     ∙ slice_get_past [] at (omega arith) in
     absurd cc
 
-one_below : (path : Path) (p : Paging) (d : Data) (at : ℕ) (q : Property) → IsKeyed p.children p.page p.depth d
-    → slice_get (properties_in (path_property path p d)) at ≡ Some q → IsBelow path p d q
-one_below path p null at q keyed h = absurd (in_none shape.Null Shape-F.Null at q shape.rolls-Null refl h)
-one_below path p (boolean b) at q keyed h =
+one_below : (id : ℕ) (path : Path) (p : Paging) (d : Data) (at : ℕ) (q : Property) → IsKeyed p.children p.page p.depth d
+    → slice_get (properties_in (path_property id path p d)) at ≡ Some q → IsBelow id path p d q
+one_below id path p null at q keyed h = absurd (in_none shape.Null Shape-F.Null at q shape.rolls-Null refl h)
+one_below id path p (boolean b) at q keyed h =
     absurd (in_none (shape.Bool b) (Shape-F.Bool b) at q (shape.rolls-Bool b) refl h)
-one_below path p (integer n) at q keyed h =
+one_below id path p (integer n) at q keyed h =
     absurd (in_none (shape.Int n) (Shape-F.Int n) at q (shape.rolls-Int n) refl h)
-one_below path p (text bytes) at q keyed h =
+one_below id path p (text bytes) at q keyed h =
     let front : List ℕ = take p.bytes bytes in
     absurd (in_none (shape.Text (length bytes) front) (Shape-F.Text (length bytes) front) at q
     (shape.rolls-Text (length bytes) front) refl h)
-one_below path p (array es largest) at q keyed h =
+one_below id path p (array es largest) at q keyed h =
     let count = length (pairs_of es) in
-    let entries : List Property = nested p p.depth (Some (full_name path)) (page_of p.page p.children (pairs_of es)) in
+    let entries : List Property =
+    nested p p.depth (Some (full_name id path)) (page_of p.page p.children (pairs_of es)) in
     let layer : Shape-F Shape Property = Shape-F.Array count p.page p.children entries in
-    in_array es largest path p p.depth at q refl keyed
+    in_array es largest id path p p.depth at q refl keyed
     (ap (λ (x : Shape-F Shape Property). slice_get (entries_in x) at)
     (sym (opened (shape.Array count p.page p.children entries) layer
     (shape.rolls-Array count p.page p.children entries))) ∙ h)
@@ -235,37 +238,38 @@ deeper-deeper (suc n) p =
     let less : (p.depth - 1) - suc n ≡ p.depth - suc (suc n) = omega arith in
     ap (λ k. record p { depth = k; page = 0 }) less
 
-record IsFurther (path : Path) (p : Paging) (levels : ℕ) (d : Data) (q : Property) : Type 0 where
+record IsFurther (id : ℕ) (path : Path) (p : Paging) (levels : ℕ) (d : Data) (q : Property) : Type 0 where
   keys : List Key
   as_many : length keys ≡ levels
   value : Data
   there : value_under keys d ≡ Some value
-  same : q ≡ path_property (with_keys path keys) (deeper levels p) value
+  same : q ≡ path_property id (with_keys path keys) (deeper levels p) value
 
-further : (places : List ℕ) (path : Path) (p : Paging) (d : Data) (q : Property) → IsKeyed p.children p.page p.depth d
-    → below places (path_property path p d) ≡ Some q → IsFurther path p (length places) d q
-further [] path p d q keyed h = record {
+further : (places : List ℕ) (id : ℕ) (path : Path) (p : Paging) (d : Data) (q : Property)
+    → IsKeyed p.children p.page p.depth d → below places (path_property id path p d) ≡ Some q
+    → IsFurther id path p (length places) d q
+further [] id path p d q keyed h = record {
   keys = [];
   as_many = refl;
   value = d;
   there = refl;
   same =
-      sym (some_is (path_property path p d) q h)
-      ∙ ap (λ ks. path_property (record path { keys = ks }) p d) (sym (append-nil path.keys));
+      sym (some_is (path_property id path p d) q h)
+      ∙ ap (λ ks. path_property id (record path { keys = ks }) p d) (sym (append-nil path.keys));
 }
-further (at ∷ places) path p d q keyed h =
-    let first = then_some (below places) (slice_get (properties_in (path_property path p d)) at) q h in
-    let one = one_below path p d at first.0 keyed first.1 in
-    let next : below places (path_property (with_keys path (one.key ∷ [])) (deeper 1 p) one.value) ≡ Some q = ap
-    (below places) (sym one.same) ∙ first.2 in
-    let more = further places (with_keys path (one.key ∷ [])) (deeper 1 p) one.value q one.keyed next in
+further (at ∷ places) id path p d q keyed h =
+    let first = then_some (below places) (slice_get (properties_in (path_property id path p d)) at) q h in
+    let one = one_below id path p d at first.0 keyed first.1 in
+    let next : below places (path_property id (with_keys path (one.key ∷ [])) (deeper 1 p) one.value) ≡ Some q =
+    ap (below places) (sym one.same) ∙ first.2 in
+    let more = further places id (with_keys path (one.key ∷ [])) (deeper 1 p) one.value q one.keyed next in
     record {
       keys = one.key ∷ more.keys;
       as_many = ap suc more.as_many;
       value = more.value;
       there = ap (option_and_then (value_under more.keys)) one.there ∙ more.there;
       same =
-          more.same ∙ λ i. path_property (record path { keys = append_assoc path.keys (one.key ∷ []) more.keys i })
+          more.same ∙ λ i. path_property id (record path { keys = append_assoc path.keys (one.key ∷ []) more.keys i })
           (deeper-deeper (length places) p i) more.value;
     }
 
@@ -295,14 +299,14 @@ module _ (s : State) (level id : ℕ) (path : Path) (keys : List Key) (d e : Dat
 
 pub has_paths : (s : State) (level id : ℕ) (path : Path) (p : Paging) (d : Data) → value_at s level id path ≡ Ok d
     → IsKeyed p.children p.page p.depth d
-    → HasPaths s level id path p (path_property path p d)
+    → HasPaths s level id path p (path_property id path p d)
 has_paths s level id path p d at keyed = λ places q h.
-    let f = further places path p d q keyed h in
+    let f = further places id path p d q keyed h in
     record {
       keys = f.keys;
       as_many = f.as_many;
       shown =
-          ap (and_then (λ x. Ok (path_property (with_keys path f.keys) (deeper (length places) p) x)))
+          ap (and_then (λ x. Ok (path_property id (with_keys path f.keys) (deeper (length places) p) x)))
           (value_at_more s level id path f.keys d f.value f.there at)
           ∙ ap (λ x. Ok x) (sym f.same);
     }
@@ -317,20 +321,20 @@ names_eq = record {
 }
 
 -- a property that is shown of variables is that of one with a value
-record IsShown (p : Paging) (globals variables : Variables) (q : Property) : Type 0 where
+record IsShown (id : ℕ) (p : Paging) (globals variables : Variables) (q : Property) : Type 0 where
   place : ℕ
   variable : List ℕ × Slot
   value : Value
   there : slice_get variables place ≡ Some variable
   has : variable_value globals variable ≡ Some value
-  same : q ≡ path_property (variable_path variable.0) p (data_of value)
+  same : q ≡ path_property id (variable_path variable.0) p (data_of value)
 
-shown_at : (p : Paging) (globals variables : Variables) (at : ℕ) (q : Property)
-    → slice_get (flat_map (variable_shown p globals) variables) at ≡ Some q → IsShown p globals variables q
-shown_at p globals [] at q h =
+shown_at : (id : ℕ) (p : Paging) (globals variables : Variables) (at : ℕ) (q : Property)
+    → slice_get (flat_map (variable_shown id p globals) variables) at ≡ Some q → IsShown id p globals variables q
+shown_at id p globals [] at q h =
     let none : slice_get {X = Property} [] at ≡ None = slice_get_past [] at (omega arith) in absurd cc
-shown_at p globals (v ∷ vs) at q h = by (variable_value globals v) at refl h (shown_at p globals vs) where
-  later : IsShown p globals vs q → IsShown p globals (v ∷ vs) q
+shown_at id p globals (v ∷ vs) at q h = by (variable_value globals v) at refl h (shown_at id p globals vs) where
+  later : IsShown id p globals vs q → IsShown id p globals (v ∷ vs) q
   later l =
       record {
         place = suc l.place;
@@ -342,10 +346,10 @@ shown_at p globals (v ∷ vs) at q h = by (variable_value globals v) at refl h (
       }
 
   by : (o : Option Value) (n : ℕ) → variable_value globals v ≡ o
-      → slice_get (option_map_or (λ value. path_property (variable_path v.0) p (data_of value) ∷ []) o []
-      ++ flat_map (variable_shown p globals) vs) n ≡ Some q
-      → ((m : ℕ) (r : Property) → slice_get (flat_map (variable_shown p globals) vs) m ≡ Some r
-      → IsShown p globals vs r) → IsShown p globals (v ∷ vs) q
+      → slice_get (option_map_or (λ value. path_property id (variable_path v.0) p (data_of value) ∷ []) o []
+      ++ flat_map (variable_shown id p globals) vs) n ≡ Some q
+      → ((m : ℕ) (r : Property) → slice_get (flat_map (variable_shown id p globals) vs) m ≡ Some r
+      → IsShown id p globals vs r) → IsShown id p globals (v ∷ vs) q
   by None n is g more = later (more n q g)
   by (Some value) zero is g more =
       record {
@@ -355,16 +359,16 @@ shown_at p globals (v ∷ vs) at q h = by (variable_value globals v) at refl h (
         there = refl;
         has = is;
         same = sym
-            (some_is (path_property (variable_path v.0) p (data_of value)) q g);
+            (some_is (path_property id (variable_path v.0) p (data_of value)) q g);
       }
   by (Some value) (suc n) is g more = later (more n q g)
 
 pub of_variables : (s : State) (level id : ℕ) (p : Paging) (variables : Variables)
     → shown_variables s level id ≡ Ok variables → IsDistinct bytes_eq (keys_of variables)
     → VariablesAreKeyed p s.globals variables (length variables)
-    → AreOfVariables s level id p (flat_map (variable_shown p s.globals) variables)
+    → AreOfVariables s level id p (flat_map (variable_shown id p s.globals) variables)
 of_variables s level id p variables shown distinct keyed = λ at q h.
-    let f = shown_at p s.globals variables at q h in
+    let f = shown_at id p s.globals variables at q h in
     let path : Path = variable_path f.variable.0 in
     let slot : slot_of variables f.variable.0 ≡ Some f.variable.1 = found_at bytes_eq names_eq variables f.place
     f.variable distinct f.there in

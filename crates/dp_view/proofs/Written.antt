@@ -1,5 +1,5 @@
 -- A full name is spelt as the grammar says, and names one path alone.
-use Rattle.std.proofs.Common.{◌≡◌, ℕ, Bool, true, false, cond, ◌==◌, List, [], ◌∷◌, ◌++◌, Option, Some, None, refl, sym, ap, subst, ◌∙◌, append_assoc, inl, inr}
+use Rattle.std.proofs.Common.{◌≡◌, ℕ, Bool, true, false, cond, ◌==◌, if◌then◌else◌, List, [], ◌∷◌, ◌++◌, codes, Option, Some, None, refl, sym, ap, subst, ◌∙◌, append_assoc, inl, inr}
 use Rattle.std.specs.List.{flat_map, AllByRecursion}
 use Rattle.std.specs.Option.{option_map_or}
 use Rattle.std.proofs.lemmas.Bool.{eqb-true}
@@ -10,8 +10,8 @@ use Rattle.dp_value.specs.declared.key.Key.TheVariants.{Int, Text}
 use Rattle.dp_value.specs.IntText.{int_of_text}
 use Rattle.dp_value.specs.KeyOf.{key_of_text}
 use Rattle.dp_value.specs.Quotes.{in_quotes}
-use Rattle.dp_view.specs.Grammar.{Repeated, Within, is_plain, Quoted, Inner, Index, spelt, HasIndex, HasFullName}
-use Rattle.dp_view.specs.Names.{index_of, entry_name, full_name}
+use Rattle.dp_view.specs.Grammar.{Dollar, Repeated, Within, is_plain, Quoted, Inner, Index, spelt, HasIndex, HasFullName}
+use Rattle.dp_view.specs.Names.{index_of, entry_name, full_name, sigil, variable_name}
 use Rattle.dp_view.specs.inner.Longer.{with_key}
 use Rattle.dp_view.specs.NameReader.{path_at}
 use Rattle.dp_view.proofs.Again.{path_again}
@@ -90,12 +90,17 @@ indices_written (key ∷ keys) all = record {
   second = indices_written keys all.1;
 }
 
-full_name_spelt : (path : Path) → HasFullName path → spelt (full_name path) path
-full_name_spelt path has = record {
-  front = 36 ∷ [];
+-- what stands before the names of a context is a `$`, or nothing
+sigil_written : (b : Bool) → Dollar (if b then [] else codes "$")
+sigil_written true = inr refl
+sigil_written false = inl refl
+
+full_name_spelt : (id : ℕ) (path : Path) → HasFullName path → spelt (full_name id path) path
+full_name_spelt id path has = record {
+  front = sigil id;
   back = path.name ++ flat_map index_of path.keys;
-  whole = refl;
-  first = inl refl;
+  whole = append_assoc (sigil id) path.name (flat_map index_of path.keys);
+  first = sigil_written (id == 2);
   second = record {
     front = path.name;
     back = flat_map index_of path.keys;
@@ -105,8 +110,8 @@ full_name_spelt path has = record {
   };
 }
 
-pub full_name_read : (path : Path) → HasFullName path → path_at (full_name path) ≡ Some path
-full_name_read path has = path_again (full_name path) path (full_name_spelt path has)
+pub full_name_read : (id : ℕ) (path : Path) → HasFullName path → path_at (full_name id path) ≡ Some path
+full_name_read id path has = path_again (full_name id path) path (full_name_spelt id path has)
 
 indices_more : (keys : List Key) (key : Key)
     → flat_map index_of keys ++ index_of key ≡ flat_map index_of (keys ++ key ∷ [])
@@ -115,8 +120,9 @@ indices_more (k ∷ keys) key =
     append_assoc (index_of k) (flat_map index_of keys) (index_of key)
     ∙ ap (λ (t : List ℕ). index_of k ++ t) (indices_more keys key)
 
-pub entry_full_name : (path : Path) (key : Key)
-    → entry_name (Some (full_name path)) key ≡ Some (full_name (with_key path key))
-entry_full_name path key =
-    ap (λ (t : List ℕ). Some (36 ∷ t)) (append_assoc path.name (flat_map index_of path.keys) (index_of key)
-    ∙ ap (λ (t : List ℕ). path.name ++ t) (indices_more path.keys key))
+pub entry_full_name : (id : ℕ) (path : Path) (key : Key)
+    → entry_name (Some (full_name id path)) key ≡ Some (full_name id (with_key path key))
+entry_full_name id path key =
+    let variable : List ℕ = variable_name id path.name in
+    ap (λ (t : List ℕ). Some t) (append_assoc variable (flat_map index_of path.keys) (index_of key)
+    ∙ ap (λ (t : List ℕ). variable ++ t) (indices_more path.keys key))

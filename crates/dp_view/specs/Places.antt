@@ -16,12 +16,14 @@ use Rattle.dp_view.specs.Answers.{and_then}
 
 -- the contexts, by their names and ids
 abbrev pub contexts : List (List ℕ × ℕ)
-contexts = (codes "Locals", 0) ∷ (codes "Globals", 1) ∷ []
+contexts = (codes "Locals", 0) ∷ (codes "Globals", 1) ∷ (codes "User defined constants", 2) ∷ []
 
--- the variables of a context at a level: those that the frame uses, or the global ones
+-- the variables of a context at a level: those that the frame uses, or the global ones; the
+-- constants that the program has defined are the same at every level
 abbrev pub variables_of : State → ℕ → ℕ → Option Variables
 variables_of s level id =
-    if id == 0 then Some (variables_at s level) else if id == 1 then Some s.globals else None
+    if id == 0 then Some (variables_at s level) else if id == 1 then Some s.globals
+    else if id == 2 then Some s.constants else None
 
 -- The same, or the code of a refusal: 301 where the level is not below the number of frames, else
 -- 302 where there is no such context.

@@ -74,14 +74,14 @@ is_copied other = false
 
 -- ---- places
 
--- what is shown of what stands at a path
-abbrev pub path_property : Path → Paging → Data → Property
-path_property path p d = property_of p (Some (own_name path)) (Some (full_name path)) d
+-- what is shown of what stands at a path in a context
+abbrev pub path_property : ℕ → Path → Paging → Data → Property
+path_property id path p d = property_of p (Some (own_name id path)) (Some (full_name id path)) d
 
 -- the same of what stands there in a context at a level, or the code of a refusal
 abbrev pub property_at : State → ℕ → ℕ → Path → Paging → Result Property ErrorCode
 property_at s level id path p =
-    and_then (λ d. Ok (path_property path p d)) (value_at s level id path)
+    and_then (λ d. Ok (path_property id path p d)) (value_at s level id path)
 
 -- the path of a variable
 abbrev pub variable_path : List ℕ → Path
@@ -92,15 +92,15 @@ variable_path name = record { name = name; keys = [] }
 abbrev pub variable_value : Variables → List ℕ × Slot → Option Value
 variable_value globals v = value_through (Some v.1) (value_held (slot_of globals v.0))
 
--- what is shown of a variable: what stands at its path, if it has a value
-abbrev pub variable_shown : Paging → Variables → List ℕ × Slot → List Property
-variable_shown p globals v =
-    option_map_or (λ value. path_property (variable_path v.0) p (data_of value) ∷ [])
+-- what is shown of a variable of a context: what stands at its path, if it has a value
+abbrev pub variable_shown : ℕ → Paging → Variables → List ℕ × Slot → List Property
+variable_shown id p globals v =
+    option_map_or (λ value. path_property id (variable_path v.0) p (data_of value) ∷ [])
     (variable_value globals v) []
 
--- what a context at a level shows: its variables in the order of their first assignment, or the
--- code of a refusal
+-- what a context at a level shows: its variables in the order of their first assignment, or its
+-- constants in that of their definition; or the code of a refusal
 abbrev pub context_at : State → ℕ → ℕ → Paging → Result (List Property) ErrorCode
 context_at s level id p =
-    and_then (λ variables. Ok (flat_map (variable_shown p s.globals) variables))
+    and_then (λ variables. Ok (flat_map (variable_shown id p s.globals) variables))
     (shown_variables s level id)

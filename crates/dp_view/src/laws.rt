@@ -11,8 +11,8 @@ pub fn names_have_one_path()
     ensures { (bytes : List ℕ) (path : Path) → spelt bytes path ↔ (path_at bytes ≡ Some path) }
 {}
 
-/// The full name of what stands at a path names that path. The path's name is one that a variable may have, and no text
-/// among its keys is one that turns into an integer.
+/// The full name of what stands at a path in a context names that path. The path's name is one that a variable may
+/// have, and no text among its keys is one that turns into an integer.
 pub fn full_names_are_read_back()
-    ensures { (path : Path) → HasFullName path → path_at (full_name path) ≡ Some path }
+    ensures { (id : ℕ) (path : Path) → HasFullName path → path_at (full_name id path) ≡ Some path }
 {}

@@ -21,6 +21,7 @@ pub use errors::ViewError;
 pub use laws::{full_names_are_read_back, names_have_one_path};
 pub use name_reader::read_name;
 pub use named::{named_path, named_property, named_value};
+pub use names::sigil;
 pub use paging::Paging;
 pub use places::{shown_variables, slot_value, value_at};
 pub use properties::{page_end, page_start, property, shown};

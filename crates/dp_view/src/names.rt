@@ -11,11 +11,23 @@ use dp_value::{Bytes, Key, put_in_quotes};
 use itoa::Buffer;
 use std::alloc::Global;
 
-/// What a user calls the variable of this name: `$` and the name.
-pub(crate) fn variable_name(alloc: Global, name: &[u8]) -> Result<Bytes, Memory>
-    ensures { IfOk result (λ n. n ≡ spec.variable_name name.now) }
+/// What stands before the names of the context with this id: nothing before those of constants, and else `$`. Takes no
+/// memory.
+pub fn sigil(id: u32) -> &'static [u8]
+    ensures { result.now ≡ spec.sigil id }
 {
-    let mut out = Vec::from_slice(alloc, b"$")?;
+    if id == 2 {
+        b"".as_slice()
+    } else {
+        b"$".as_slice()
+    }
+}
+
+/// What a user calls the variable of this name in a context: `$` and the name, and a constant by its name.
+pub(crate) fn variable_name(alloc: Global, id: u32, name: &[u8]) -> Result<Bytes, Memory>
+    ensures { IfOk result (λ n. n ≡ spec.variable_name id name.now) }
+{
+    let mut out = Vec::from_slice(alloc, sigil(id))?;
     out.extend_from_slice(name)?;
     Ok(Bytes::of(out))
 }
@@ -73,22 +85,22 @@ fn put_indices(out: &mut Vec<u8>, keys: &[Key]) -> Result<(), Memory>
     Ok(())
 }
 
-/// What a user calls what stands at a path: the variable, or the text of the last key.
-pub(crate) fn own_name(alloc: Global, path: &Path) -> Result<Bytes, Memory>
-    ensures { IfOk result (λ n. n ≡ spec.own_name path.now) }
+/// What a user calls what stands at a path in a context: the variable, or the text of the last key.
+pub(crate) fn own_name(alloc: Global, id: u32, path: &Path) -> Result<Bytes, Memory>
+    ensures { IfOk result (λ n. n ≡ spec.own_name id path.now) }
 {
     let keys = path.keys.as_slice();
     match keys.get(keys.len().saturating_sub(1)) {
         Some(key) => key_text(alloc, key),
-        None => variable_name(alloc, path.name.as_slice()),
+        None => variable_name(alloc, id, path.name.as_slice()),
     }
 }
 
-/// The name by which a command can ask for what stands at a path.
-pub(crate) fn full_name(alloc: Global, path: &Path) -> Result<Bytes, Memory>
-    ensures { IfOk result (λ n. n ≡ spec.full_name path.now) }
+/// The name by which a command can ask for what stands at a path in a context.
+pub(crate) fn full_name(alloc: Global, id: u32, path: &Path) -> Result<Bytes, Memory>
+    ensures { IfOk result (λ n. n ≡ spec.full_name id path.now) }
 {
-    let mut out = Vec::from_slice(alloc, b"$")?;
+    let mut out = Vec::from_slice(alloc, sigil(id))?;
     out.extend_from_slice(path.name.as_slice())?;
     put_indices(&mut out, path.keys.as_slice())?;
     Ok(Bytes::of(out))

@@ -18,6 +18,7 @@ fn variables_of(state: &State, level: usize, id: u32) -> Option<&Vars>
     match id {
         0 => Some(state.variables(level)),
         1 => Some(&state.globals),
+        2 => Some(&state.constants),
         _ => None,
     }
 }

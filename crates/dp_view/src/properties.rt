@@ -208,13 +208,19 @@ pub fn shown(alloc: Global, value: &Value, p: &Paging) -> Result<Property, Memor
     }
 }
 
-/// The property of the value at a path.
-fn property_at(alloc: Global, path: &Path, p: &Paging, value: &Value) -> Result<Property, Memory>
-    ensures made { IfOk result (λ made. made ≡ spec.path_property path.now p.now (data_of value.now)) }
+/// The property of the value at a path in a context.
+fn property_at(
+    alloc: Global,
+    id: u32,
+    path: &Path,
+    p: &Paging,
+    value: &Value,
+) -> Result<Property, Memory>
+    ensures made { IfOk result (λ made. made ≡ spec.path_property id path.now p.now (data_of value.now)) }
     ensures keyed { OnOk result (IsKeyed p.now.children p.now.page p.now.depth (data_of value.now)) }
 {
-    let name = own_name(alloc, path)?;
-    let fullname = full_name(alloc, path)?;
+    let name = own_name(alloc, id, path)?;
+    let fullname = full_name(alloc, id, path)?;
     property_of(alloc, p, Some(name), Some(fullname), value)
 }
 
@@ -235,5 +241,5 @@ pub fn property(
     ensures paths { IfOk result (HasPaths state.now level id path.now p.now) }
 {
     let value = value_at(state, level, id, path)?;
-    Ok(property_at(alloc, path, p, value)?)
+    Ok(property_at(alloc, id, path, p, value)?)
 }

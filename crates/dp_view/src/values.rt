@@ -2,14 +2,14 @@
 
 ghost use Rattle.std.specs.Prelude.{◌≡◌, IfOk};
 ghost use Rattle.std.specs.Fmt.{signed_decimal};
-ghost use Rattle.dp_packet.specs.Parts.{base64, flag as flag_text};
+ghost use Rattle.dp_packet.specs.Parts.{base64};
 ghost use Rattle.dp_packet.specs.Properties.{text_attributes, type_of};
 ghost use Rattle.dp_value.specs.Value.{data_of};
 ghost use Rattle.dp_view.specs.Values as spec;
 
 use crate::Memory;
 use base64::engine::general_purpose::STANDARD;
-use dp_packet::put_attribute;
+use dp_packet::{flag, put_attribute};
 use dp_value::{Bytes, Items, Value};
 use itoa::Buffer;
 use std::alloc::Global;
@@ -86,13 +86,6 @@ fn int_text(alloc: Global, n: i64) -> Result<Bytes, Memory>
 {
     let mut buffer = Buffer::new();
     Bytes::from_slice(alloc, buffer.format(n).as_bytes())
-}
-
-/// `1` if it holds, else `0`.
-fn flag(b: bool) -> &'static [u8]
-    ensures { result.now ≡ flag_text b }
-{
-    if b { b"1" } else { b"0" }
 }
 
 /// The value as text, of a text its first bytes in base64, at most so many or all, and nothing of an array.

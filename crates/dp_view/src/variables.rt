@@ -31,37 +31,46 @@ fn named(alloc: Global, name: &[u8], id: u32) -> Result<(Bytes, u32), Memory>
     Ok((Bytes::from_slice(alloc, name)?, id))
 }
 
-/// The contexts by their names and ids: `Locals` with 0, and `Globals` with 1.
+/// The contexts by their names and ids: `Locals` with 0, `Globals` with 1, and `User defined constants` with 2.
 fn all_contexts(alloc: Global) -> Result<Items<(Bytes, u32)>, Memory>
     ensures { IfOk result (λ all. all ≡ places.contexts) }
 {
     let mut all = Vec::new(alloc);
     all.push(named(alloc, b"Locals", 0)?)?;
     all.push(named(alloc, b"Globals", 1)?)?;
+    all.push(named(alloc, b"User defined constants", 2)?)?;
     Ok(Items::of(all))
 }
 
-/// The contexts by their names and ids: the variables of a frame, and the global variables.
+/// The contexts by their names and ids: the variables of a frame, the global variables, and the constants that the
+/// program has defined.
 pub fn contexts(alloc: Global) -> Result<Items<(Bytes, u32)>, ViewError>
     ensures { Answers (λ all. all) result (Ok places.contexts) }
 {
     Ok(all_contexts(alloc)?)
 }
 
-/// The property of a variable with this value.
-fn variable(alloc: Global, p: &Paging, name: &[u8], value: &Value) -> Result<Property, Memory>
+/// The property of a variable of a context with this value.
+fn variable(
+    alloc: Global,
+    id: u32,
+    p: &Paging,
+    name: &[u8],
+    value: &Value,
+) -> Result<Property, Memory>
     ensures made { IfOk result (λ made. made ≡
-        spec.path_property (spec.variable_path name.now) p.now (data_of value.now)) }
+        spec.path_property id (spec.variable_path name.now) p.now (data_of value.now)) }
     ensures keyed { OnOk result (IsKeyed p.now.children p.now.page p.now.depth (data_of value.now)) }
 {
-    let own = variable_name(alloc, name)?;
-    let full = variable_name(alloc, name)?;
+    let own = variable_name(alloc, id, name)?;
+    let full = variable_name(alloc, id, name)?;
     property_of(alloc, p, Some(own), Some(full), value)
 }
 
 /// Puts the property of the variable at a position behind others, if it has a value.
 fn put_variable(
     alloc: Global,
+    id: u32,
     p: &Paging,
     globals: &Vars,
     variables: &Vars,
@@ -69,12 +78,12 @@ fn put_variable(
     made: &mut Vec<Property>,
 ) -> Result<(), Memory>
     ensures made { OnOk result (made.new.items ≡
-        made.old.items ++ variables_at p.now globals.now variables.now at) }
+        made.old.items ++ variables_at id p.now globals.now variables.now at) }
     ensures keyed { OnOk result (VariableIsKeyed p.now globals.now variables.now at) }
 {
     if let Some((name, slot)) = variables.pair(at) {
         if let Some(value) = slot_value(globals, name, slot) {
-            made.push(variable(alloc, p, name.as_slice(), value)?)?;
+            made.push(variable(alloc, id, p, name.as_slice(), value)?)?;
         }
     }
     Ok(())
@@ -83,24 +92,25 @@ fn put_variable(
 /// The properties of the variables that have a value, in the order of the variables.
 fn all_variables(
     alloc: Global,
+    id: u32,
     p: &Paging,
     globals: &Vars,
     variables: &Vars,
 ) -> Result<Items<Property>, Memory>
-    ensures made { IfOk result (λ made. made ≡ flat_map (spec.variable_shown p.now globals.now) variables.now) }
+    ensures made { IfOk result (λ made. made ≡ flat_map (spec.variable_shown id p.now globals.now) variables.now) }
     ensures keyed { OnOk result (VariablesAreKeyed p.now globals.now variables.now (length variables.now)) }
     ensures distinct { IsDistinct bytes_eq (keys_of variables.now) }
 {
     let mut made = Vec::new(alloc);
     for at in 0..variables.len() {
-        put_variable(alloc, p, globals, variables, at, &mut made)?;
+        put_variable(alloc, id, p, globals, variables, at, &mut made)?;
     }
     Ok(Items::of(made))
 }
 
-/// The properties of the variables of a context at a level, in the order of their first assignment; level 0 is the top
-/// frame. A variable that is bound shows the value of the global variable of its name. Each value is shown as `p` asks
-/// for it, so each array shows the same page.
+/// The properties of the variables of a context at a level, in the order of their first assignment, or of the
+/// constants, in that of their definition; level 0 is the top frame. A variable that is bound shows the value of the
+/// global variable of its name. Each value is shown as `p` asks for it, so each array shows the same page.
 ///
 /// The code is 301 exactly where the level is not below the number of frames, else 302 exactly where there is no
 /// context with this id.
@@ -118,5 +128,5 @@ pub fn context(
     ensures paths { IfOk result (AreOfVariables state.now level id p.now) }
 {
     let variables = shown_variables(state, level, id)?;
-    Ok(all_variables(alloc, p, &state.globals, variables)?)
+    Ok(all_variables(alloc, id, p, &state.globals, variables)?)
 }

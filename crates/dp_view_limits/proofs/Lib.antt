@@ -1,3 +1,5 @@
-pub mod Escapes
+-- Lemmas on the texts of names, on those of properties, and on what is counted.
+pub mod NameTexts
 pub mod Written
-pub mod Budget
+pub mod Steps
+pub mod Counts

@@ -1,4 +1,5 @@
--- How sizes are counted: what the functions inside the crate say. No clause of a public call speaks
--- of it.
-pub mod Sizes
+-- The texts of names and of properties, as the functions inside the crate put them. No clause of a
+-- public call speaks of it.
+pub mod Names
+pub mod Texts
 pub mod AtPaths

@@ -2,8 +2,9 @@
 #![tactic(auto)]
 
 mod limits;
-mod measures;
+mod names;
 mod sizes;
+mod writers;
 
 pub use dp_view::ViewError;
 pub use limits::{limited_context, limited_property, limited_shown};

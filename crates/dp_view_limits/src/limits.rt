@@ -11,7 +11,7 @@ ghost use Rattle.dp_view.specs.NameReader.{path_at};
 ghost use Rattle.dp_view_limits.specs.Limits as spec;
 ghost use Rattle.dp_view_limits.specs.inner.AtPaths.{limited_at};
 
-use crate::measures::{property_fits, shown_fits, variables_fit};
+use crate::sizes::{property_fits, shown_fits, variables_fit};
 use dp_packet::{ErrorCode, Property};
 use dp_state::{Path, State};
 use dp_tree::Bundle;
@@ -33,7 +33,7 @@ fn property_within(
     ensures paths { IfOk result (HasPaths state.now level id path.now p.now) }
 {
     let value = value_at(state, level, id, path)?;
-    if property_fits(path, p, value, most) {
+    if property_fits(id, path, p, value, most) {
         property(alloc, state, level, id, path, p)
     } else {
         Err(ViewError::Code(ErrorCode::CannotGetProperty))
@@ -45,8 +45,8 @@ fn property_within(
 ///
 /// The code is 301 exactly where the level is not below the number of frames, else 302 exactly where there is no
 /// context with this id, else 300 exactly where the bytes are no name, nothing stands there, or the element has more
-/// bytes. That it has more is found before it is made, and by looking at no more of the value than that many bytes
-/// show.
+/// bytes. That it has more is found before it is made, and by looking at no more of the value than that many bytes and
+/// one property more show.
 pub fn limited_property(
     alloc: Global,
     state: &State,
@@ -66,8 +66,9 @@ pub fn limited_property(
     property_within(alloc, state, level, id, &path, p, most)
 }
 
-/// The properties of the variables of a context at a level, in the order of their first assignment, if their elements
-/// have at most so many bytes together in the text of a packet; level 0 is the top frame. DBGp 1.0, "context_get".
+/// The properties of the variables of a context at a level, in the order of their first assignment, or of its constants
+/// in that of their definition, if their elements have at most so many bytes together in the text of a packet; level 0
+/// is the top frame. DBGp 1.0, "context_get".
 ///
 /// The code is 301 exactly where the level is not below the number of frames, else 302 exactly where there is no
 /// context with this id, else 300 exactly where the elements have more bytes. That they have more is found without
@@ -86,7 +87,7 @@ pub fn limited_context(
     ensures paths { IfOk result (AreOfVariables state.now level id p.now) }
 {
     let variables = shown_variables(state, level, id)?;
-    if variables_fit(p, &state.globals, variables, most) {
+    if variables_fit(id, p, &state.globals, variables, most) {
         context(alloc, bundle, state, level, id, p)
     } else {
         Err(ViewError::Code(ErrorCode::CannotGetProperty))

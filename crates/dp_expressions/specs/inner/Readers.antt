@@ -141,13 +141,21 @@ module _ (level : ℕ) (inner : Part → Reader Expression) where
     items ← any_items (λ _. item_rule) terminal.CloseParenthesis
     gives (tree.Array items)
 
-  unfoldable pub call : Reader Expression
-  call = do
+  -- a call, behind its name
+  unfoldable pub call : Text → Reader Expression
+  call name = do
     enter level
-    name ← kind name_in
     mark terminal.OpenParenthesis
     arguments ← any_items (λ _. inner part.Whole) terminal.CloseParenthesis
     gives (tree.Call name arguments)
+
+  -- a name is that of a call where a parenthesis comes next, and else that of a constant
+  unfoldable pub behind_name : Text → Reader Expression
+  behind_name name ts =
+      if is terminal.OpenParenthesis (head ts) then call name ts else Ok (tree.Constant name, ts)
+
+  unfoldable pub named : Reader Expression
+  named = kind name_in >>= behind_name
 
   unfoldable pub isset : Reader Expression
   isset = do
@@ -164,7 +172,7 @@ module _ (level : ℕ) (inner : Part → Reader Expression) where
       else if is terminal.OpenParenthesis (head ts) then group ts
       else if is terminal.OpenBracket (head ts) then literal ts
       else if is terminal.Array (head ts) then array_call ts
-      else if is terminal.Name (head ts) then call ts
+      else if is terminal.Name (head ts) then named ts
       else refuse ts
 
   unfoldable pub prefixed : Reader Expression

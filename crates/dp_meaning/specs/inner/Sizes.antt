@@ -6,6 +6,7 @@ use denote.Param.Weighed.{most}
 use Rattle.dp_tree.specs.declared.bundle.Bundle.{Bundle}
 use Rattle.dp_tree.specs.declared.bundle.BundleFile.{BundleFile}
 use Rattle.dp_tree.specs.declared.tree.Arm.{Arm, fold-Arm}
+use Rattle.dp_tree.specs.declared.tree.Definition.{Definition}
 use Rattle.dp_tree.specs.declared.tree.Expression.{Expression, size-Expression}
 use Rattle.dp_tree.specs.declared.tree.Function.{Function}
 use Rattle.dp_tree.specs.declared.tree.Place.{size-Place}
@@ -23,6 +24,9 @@ expressions_size es = 4 * most size-Expression es + 2
 
 abbrev pub optional_size : Option Expression → ℕ
 optional_size o = option_map_or expression_size o 0
+
+abbrev pub definitions_size : List Definition → ℕ
+definitions_size ds = 4 * most (λ (d : Definition). size-Expression d.value) ds
 
 -- ---- statements, by all that is in them
 
@@ -53,6 +57,7 @@ kind_layer (StatementKind-F.Continue loop) = 1
 kind_layer (StatementKind-F.Return value) = optional_size value + 4
 kind_layer (StatementKind-F.Global names) = 1
 kind_layer (StatementKind-F.Unset places) = 4 * most size-Place places + 4
+kind_layer (StatementKind-F.Constants all) = definitions_size all + 4
 kind_layer (StatementKind-F.Exit value) = optional_size value + 4
 
 unfoldable pub statement_size : Statement → ℕ

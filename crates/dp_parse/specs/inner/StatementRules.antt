@@ -1,5 +1,5 @@
 -- How statements are read: the rules of the grammar, with each choice made by the next token.
-use Rattle.std.specs.Prelude.{ℕ, zero, suc, true, not, ◌&&◌, nat_lt, if◌then◌else◌, List, [], ◌∷◌, ◌++◌, Option, Some, None, Ok}
+use Rattle.std.specs.Prelude.{ℕ, zero, suc, ◌-◌, Bool, true, false, not, ◌&&◌, nat_lt, if◌then◌else◌, List, [], ◌∷◌, ◌++◌, take, drop, length, Option, Some, None, Ok, Err}
 use Rattle.std.specs.declared.ops.ControlFlow.{ControlFlow}
 use Rattle.std.specs.declared.ops.ControlFlow.TheVariants.{Continue, Break}
 use Rattle.dp_parse.specs.declared.ended.Ended.{Ended}
@@ -10,18 +10,23 @@ use Rattle.dp_token_rules.specs.declared.terminal.Terminal.{Terminal}
 use Rattle.dp_token_rules.specs.declared.terminal.Terminal.TheVariants as terminal
 use Rattle.dp_tree.specs.declared.tree.Arm.{Arm}
 use Rattle.dp_tree.specs.declared.tree.Binding.{Binding}
+use Rattle.dp_tree.specs.declared.tree.Definition.{Definition}
 use Rattle.dp_tree.specs.declared.tree.Expression.{Expression}
 use Rattle.dp_tree.specs.declared.tree.Function.{Function}
 use Rattle.dp_tree.specs.declared.tree.Place.{Place}
 use Rattle.dp_tree.specs.declared.tree.Statement.{Statement}
 use Rattle.dp_tree.specs.declared.tree.StatementKind.{StatementKind}
 use Rattle.dp_tree.specs.declared.tree.StatementKind.TheVariants as tree
-use Rattle.dp_token_rules.specs.Terminals.{is, head}
+use Rattle.dp_lexer.specs.declared.token.Token.{Token}
+use Rattle.dp_grammar.specs.declared.refusal.Refusal.{Refusal}
+use Rattle.dp_grammar.specs.declared.refusal.Refusal.TheVariants.{Unexpected, TooDeep, Memory}
+use Rattle.dp_token_rules.specs.Terminals.{is, head, terminal_of}
 use Rattle.dp_token_rules.specs.Lines.{line_of}
-use Rattle.dp_token_rules.specs.inner.Input.{Reader, ◌>>=◌, ◌>>◌, gives, made, refuse, mark, enter, closed, kind, variable}
-use Rattle.dp_token_rules.specs.inner.ListReaders.{plain_items, some_items, any_plain_items, any_items}
+use Rattle.dp_token_rules.specs.inner.Input.{Outcome, Reader, ◌>>=◌, ◌>>◌, gives, made, refuse, mark, enter, closed, kind, variable}
+use Rattle.dp_token_rules.specs.inner.ListReaders.{plain_items, some_items, any_plain_items, any_items, many}
 use Rattle.dp_token_rules.specs.TokenValues.{Text, name_in, number_up_to}
 use Rattle.dp_expressions.specs.inner.Readers.{reading, reading_place}
+use Rattle.dp_parse.specs.Statements.{breaks, defined_as}
 use Rattle.dp_parse.specs.Statements.{ended, whole, binding, parameter_in, Arms, with_arm, stated, Depth, function_of, no_parts, with_statement, with_function}
 
 unfoldable pub on_its_line : Reader Ended → Reader Body
@@ -278,11 +283,61 @@ function_rule depth = do
   all ← bodies (body_below depth.expressions depth.bodies 0)
   gives (function_of line name parameters all)
 
+-- a definition, with its value as it is read there
+unfoldable pub definition : Reader Expression → Reader Definition
+definition expression = do
+  name ← kind name_in
+  mark terminal.Assign
+  value ← expression
+  gives (defined_as name value)
+
+abbrev pub next_definition : Reader Expression → Reader Definition
+next_definition expression = mark terminal.Comma >> definition expression
+
+unfoldable pub definitions : Reader Expression → Reader (List Definition)
+definitions expression = do
+  mark terminal.Const
+  first ← definition expression
+  more ← many (is terminal.Comma) (next_definition expression)
+  gives (first ∷ more)
+
+-- how many of these tokens stand before the first with which a constant's expression does not go
+-- on, where they stand behind a name or not
+abbrev pub fixed_len : Bool → List Token → ℕ
+fixed_len named [] = 0
+fixed_len named (t ∷ ts) =
+    if breaks named (terminal_of t.kind) then 0
+    else suc (fixed_len (is terminal.Name (terminal_of t.kind)) ts)
+
+-- a refusal among the first so many of all, by how many are left of all
+abbrev pub among_all : ℕ → ℕ → Refusal → Refusal
+among_all all first (Unexpected left) = Unexpected (all - (first - left))
+among_all all first (TooDeep left) = TooDeep (all - (first - left))
+among_all all first Memory = Memory
+
+-- what was read of the first so many of these tokens
+abbrev pub of_first : {A : Type 0} → List Token → ℕ → Outcome A → Outcome A
+of_first ts first (Ok x) = Ok (x.0, drop (first - length x.1) ts)
+of_first ts first (Err refusal) = Err (among_all (length ts) first refusal)
+
+-- what is read of those tokens alone
+unfoldable pub fixed : {A : Type 0} → Reader A → Reader A
+fixed read ts = of_first ts (fixed_len false ts) (read (take (fixed_len false ts) ts))
+
+unfoldable pub constants_rule : Reader Expression → Reader Ended
+constants_rule expression = do
+  all ← fixed (definitions expression)
+  mark terminal.Semicolon
+  gives (whole (tree.Constants all))
+
 abbrev pub file_step : Depth → Parts → Reader (ControlFlow Parts Parts)
 file_step depth parts ts =
     if is terminal.End (head ts) then Ok (Break parts, ts)
     else if is terminal.Function (head ts)
     then made (made (function_rule depth) (with_function parts)) Continue ts
+    else if is terminal.Const (head ts)
+    then made (made (on_its_line (constants_rule (reading depth.expressions part.Whole)))
+    (with_statement parts)) Continue ts
     else made (made (statement depth.expressions depth.bodies 0) (with_statement parts)) Continue ts
 
 unfoldable pub file : Depth → Reader Parts

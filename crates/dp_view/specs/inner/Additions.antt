@@ -25,9 +25,9 @@ properties_at p levels full entries at =
     option_map_or (λ e. property_in p levels full e ∷ []) (slice_get entries at) []
 
 -- that of the variable at a position, if there is one
-abbrev pub variables_at : Paging → Variables → Variables → ℕ → List Property
-variables_at p globals variables at =
-    option_map_or (variable_shown p globals) (slice_get variables at) []
+abbrev pub variables_at : ℕ → Paging → Variables → Variables → ℕ → List Property
+variables_at id p globals variables at =
+    option_map_or (variable_shown id p globals) (slice_get variables at) []
 
 -- the line of a frame at a level, if there is one
 abbrev pub line_of : Bundle → ℕ → Option Frame → List StackLine

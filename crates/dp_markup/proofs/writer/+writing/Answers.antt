@@ -1,26 +1,15 @@
-use Rattle.std.proofs.Common.{codes}
-use Rattle.std.specs.List.{flat_map}
-use Rattle.dp_markup.specs.Texts.{attribute_text, nodes_text}
-use Rattle.dp_markup.proofs.Trees.{written_is, in_order}
+use Rattle.std.proofs.Common.{◌≡◌, List, ℕ, sym, ap, subst, ◌∙◌}
+use Rattle.std.specs.Prelude.{OnOk}
+use Rattle.dp_markup.specs.Outputs.{behind}
+use Rattle.dp_markup.specs.Texts.{node_text}
+use Rattle.dp_markup.proofs.RoundTrip.{child_node}
+use Rattle.dp_markup.proofs.Trees.{written_is}
 use Rattle.dp_markup.proofs.writer.+writing.Goals as goal
 
-pub write_element-returns : goal.write_element-returns
-write_element-returns t c =
-    let element = c.args.element.now in
-    rw (written_is element) (in_order c.args.out.now.items (codes "<") element.name
-    (flat_map attribute_text element.attributes) (codes ">") (nodes_text element.children) (codes "</")
-    (codes ">") _
-    (cc (
-      c.in_ok-push.ensures.items,
-      c.as_slice.ensures,
-      c.in_ok-extend_from_slice.ensures.items,
-      c.as_slice-2.ensures,
-      c.in_ok-write_attributes.ensures,
-      c.in_ok-push-2.ensures.items,
-      c.as_slice-3.ensures,
-      c.in_ok-write_nodes.ensures,
-      c.in_ok-extend_from_slice-2.ensures.items,
-      c.as_slice-4.ensures,
-      c.in_ok-extend_from_slice-3.ensures.items,
-      c.in_ok-push-3.ensures.items,
-    )))
+pub put_node-returns-in-Child : goal.put_node-returns-in-Child
+put_node-returns-in-Child g t c =
+    let seen = g.O.Output.seen in
+    let child = c.in-Child.child in
+    subst (λ (l : List ℕ). OnOk c.put_element.result (seen c.put_element.new.out ≡ behind (seen c.args.out.now) l))
+    (sym (written_is child) ∙ sym (child_node child) ∙ ap node_text (sym c.in-Child.is))
+    c.put_element.ensures

@@ -32,6 +32,11 @@ returns-in-Variable c = λ setting.
     rw (c.in-Variable.is, begins.begins-Variable setting begins.anything c.args.state.now c.in-Variable.name)
     (c.given-in-Variable.ensures setting _ c.args.state.now c.variable_value.ensures)
 
+pub returns-in-Constant : goal.returns-in-Constant
+returns-in-Constant c = λ setting.
+    rw (c.in-Constant.is, begins.begins-Constant setting begins.anything c.args.state.now c.in-Constant.name)
+    (c.given-in-Constant.ensures setting _ c.args.state.now c.constant_value.ensures)
+
 pub returns-in-Array : goal.returns-in-Array
 returns-in-Array c = λ setting. record {
   by = λ k. rw (c.in-Array.is, c.new.ensures) (begins.begins-Array setting k c.args.state.now _);

@@ -1,8 +1,8 @@
 use Rattle.dp_actions.proofs.Runs.{and_then-assoc}
 use Rattle.dp_step_parts.proofs.receive.receive_values.Goals as goal
 
-pub returns-in-Builtin : goal.returns-in-Builtin
-returns-in-Builtin c = λ setting. rw c.in-Builtin.is (c.call_builtin.ensures setting)
+pub returns-in-Native : goal.returns-in-Native
+returns-in-Native c = λ setting. rw c.in-Native.is (c.call_native.ensures setting)
 
 pub returns-in-Assign : goal.returns-in-Assign
 returns-in-Assign c = λ setting. record { by = λ k. rw (c.in-Assign.is, c.as_ref.ensures) (and_then-assoc _ _ _) }

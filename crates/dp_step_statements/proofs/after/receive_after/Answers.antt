@@ -7,6 +7,9 @@ returns-in-Discard c = λ setting. record { by = λ k. rw (c.in-Discard.is, c.si
 pub returns-in-Echoed : goal.returns-in-Echoed
 returns-in-Echoed c = λ setting. rw c.in-Echoed.is (c.echoed.ensures setting)
 
+pub returns-in-Defined : goal.returns-in-Defined
+returns-in-Defined c = λ setting. rw c.in-Defined.is (c.defined.ensures setting)
+
 pub returns-in-Branch : goal.returns-in-Branch
 returns-in-Branch c =
     λ setting. record {

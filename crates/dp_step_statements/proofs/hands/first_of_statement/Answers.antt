@@ -37,5 +37,10 @@ pub returns-in-Unset : goal.returns-in-Unset
 returns-in-Unset c =
     λ setting bounded. rw c.in-Unset.is (goes_as setting _ _ _ (λ k. c.unset.ensures setting k c.args.state.now))
 
+pub returns-in-Constants : goal.returns-in-Constants
+returns-in-Constants c =
+    λ setting bounded. rw c.in-Constants.is (goes_as setting _ _ _
+    (λ k. c.constants.ensures setting k c.args.state.now))
+
 pub returns-in_default : goal.returns-in_default
 returns-in_default c = λ setting bounded. c.first_of_turn.ensures setting

@@ -5,7 +5,7 @@ use Rattle.dp_actions.specs.Places.{unset_run}
 use Rattle.dp_actions.specs.Run.{Done, and_then}
 use Rattle.dp_step_parts.specs.Rest.{to_signal}
 use Rattle.dp_actions.proofs.Runs.{and_then-assoc}
-use Rattle.dp_actions.proofs.StatementLayers.{kind-Block, kind-Break, kind-Continue, kind-DoWhile, kind-Echo, kind-Empty, kind-Exit, kind-Expression, kind-For, kind-Foreach, kind-Global, kind-Return, kind-Unset, kind-While}
+use Rattle.dp_actions.proofs.StatementLayers.{kind-Block, kind-Break, kind-Constants, kind-Continue, kind-DoWhile, kind-Echo, kind-Empty, kind-Exit, kind-Expression, kind-For, kind-Foreach, kind-Global, kind-Return, kind-Unset, kind-While}
 use Rattle.dp_step_statements.proofs.FirstStatements.{if-is, placed-is, statement-is}
 use Rattle.dp_step_statements.proofs.statements.begin.Goals as goal
 
@@ -93,6 +93,12 @@ returns-in-Unset c = λ setting same k s.
     (placed-is setting k s _ _ _ (λ t.
     sym (and_then-assoc (unset_run (map place_run c.in-Unset.places) setting t) (λ v u. Done Next u) (to_signal k)))
     ∙ sym (statement-is setting k s c.args.statement.now _ c.in-Unset.is _ (kind-Unset _)))
+
+pub returns-in-Constants : goal.returns-in-Constants
+unfolding and_then
+returns-in-Constants c = λ setting same k s.
+    rw (c.placed-in-Constants.ensures, c.alone-in-Constants.ensures)
+    (sym (statement-is setting k s c.args.statement.now _ c.in-Constants.is _ (kind-Constants _)))
 
 pub returns-in-Exit : goal.returns-in-Exit
 returns-in-Exit c = λ setting same k s.

@@ -18,6 +18,7 @@ tag_is terminal.Text = refl
 tag_is terminal.Array = refl
 tag_is terminal.As = refl
 tag_is terminal.Break = refl
+tag_is terminal.Const = refl
 tag_is terminal.Continue = refl
 tag_is terminal.Die = refl
 tag_is terminal.Do = refl

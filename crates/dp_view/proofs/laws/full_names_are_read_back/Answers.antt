@@ -2,4 +2,4 @@ use Rattle.dp_view.proofs.Written.{full_name_read}
 use Rattle.dp_view.proofs.laws.full_names_are_read_back.Goals as goal
 
 pub returns : goal.returns
-returns c = λ path has. full_name_read path has
+returns c = λ id path has. full_name_read id path has

@@ -7,8 +7,9 @@ use Rattle.dp_view.proofs.variables.all_variables.Goals as goal
 pub loop-at-preserved : goal.loop-at-preserved
 loop-at-preserved c = record {
   made =
-      whole_step (variable_shown c.args.p.now c.args.globals.now) c.args.variables.now c.loop-at.made.items
-      c.put_variable.new.made.items _ c.loop-at.at c.loop-at.invariant.made c.in_ok-put_variable.ensures.made;
+      whole_step (variable_shown c.args.id c.args.p.now c.args.globals.now) c.args.variables.now
+      c.loop-at.made.items c.put_variable.new.made.items _ c.loop-at.at c.loop-at.invariant.made
+      c.in_ok-put_variable.ensures.made;
   keyed =
       keyed_more c.args.p.now c.args.globals.now c.args.variables.now c.loop-at.at c.loop-at.invariant.keyed
       c.in_ok-put_variable.ensures.keyed;

@@ -6,7 +6,8 @@ use Rattle.dp_view.proofs.variables.all_variables.Given as goal
 
 abbrev pub invariant-loop-at : goal.invariant-loop-at
 invariant-loop-at l = record {
-  made : l.made.items ++ flat_map (variable_shown l.p l.globals) (drop l.at l.variables) ≡ flat_map
-      (variable_shown l.p l.globals) l.variables;
+  made :
+      l.made.items ++ flat_map (variable_shown l.id l.p l.globals) (drop l.at l.variables)
+      ≡ flat_map (variable_shown l.id l.p l.globals) l.variables;
   keyed : VariablesAreKeyed l.p l.globals l.variables l.at;
 }

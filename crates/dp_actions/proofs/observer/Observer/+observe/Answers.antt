@@ -7,7 +7,7 @@ use mir.Val.{SFits}
 use Rattle.dp_tree.specs.declared.tree.Expression.TheViews.{the_lemmas as depths}
 use Rattle.dp_actions.specs.Expressions.{place_run}
 use Rattle.dp_actions.proofs.AtOnceLaws.{breaks_off, exits, first_done, gives, goes_on}
-use Rattle.dp_actions.proofs.Layers.{found-plain, run-Array, run-Bool, run-Chain, run-Coalesce, run-Conditional, run-Index, run-Isset, run-item-None, run-item-Some, run-link, run-Null, run-Number, run-place, run-Text, run-Unary, run-Variable}
+use Rattle.dp_actions.proofs.Layers.{found-plain, run-Array, run-Bool, run-Chain, run-Coalesce, run-Conditional, run-Constant, run-Index, run-Isset, run-item-None, run-item-Some, run-link, run-Null, run-Number, run-place, run-Text, run-Unary, run-Variable}
 use Rattle.dp_actions.proofs.MissingPlaces.{place_off, place_on, place_to}
 use Rattle.dp_actions.proofs.ObservedValues.{front, joined_done, joined_off, then_on, values-all, values-break, values-first, values-more}
 use Rattle.dp_actions.proofs.PureParts.{of-Array, of-Chain, of-Index, of-Isset, of-place}
@@ -33,6 +33,9 @@ expression-returns-in-Text t c = λ setting. rw (c.in-Text.is, run-Text) (c.text
 
 pub expression-returns-in-Variable : goal.expression-returns-in-Variable
 expression-returns-in-Variable t c = λ setting. rw (c.in-Variable.is, run-Variable) c.variable_value.ensures
+
+pub expression-returns-in-Constant : goal.expression-returns-in-Constant
+expression-returns-in-Constant t c = λ setting. rw (c.in-Constant.is, run-Constant) c.constant_value.ensures
 
 pub expression-returns-in-Array : goal.expression-returns-in-Array
 expression-returns-in-Array t c =

@@ -8,16 +8,16 @@ use mir.Val.{SFits}
 use Rattle.dp_meaning.specs.inner.Evaluation.{goes_by}
 use Rattle.dp_actions.specs.Calls.{callee_of}
 use Rattle.dp_actions.specs.Expressions.{evaluations}
-use Rattle.dp_meaning.specs.inner.Sizes.{arm_size, body_size, expressions_size, statement_size}
+use Rattle.dp_meaning.specs.inner.Sizes.{arm_size, body_size, definitions_size, expressions_size, statement_size}
 use Rattle.dp_actions.specs.Effects.{print_run}
 use Rattle.dp_meaning.proofs.CallLaws.{next-done, suc-call, suc-include, zero-call, zero-include}
 use Rattle.dp_meaning.proofs.ByEvaluator.{by-arm, by-bundle, by-call, by-do, by-file, by-for, by-turns}
 use Rattle.dp_meaning.proofs.Drives.{at_once, breaks_off, ends, exits, gives, goes_on, joined_off, joined_on, passes, stops_at, tested_off, tested_on, then_at, then_on}
-use Rattle.dp_actions.proofs.Layers.{found-plain, run-Array, run-Assign, run-Bool, run-Call, run-Chain, run-Coalesce, run-CoalesceAssign, run-Compound, run-Conditional, run-Include, run-Index, run-Isset, run-item-None, run-item-Some, run-link, run-Null, run-Number, run-place, run-Push, run-Step, run-Text, run-Unary, run-Variable}
-use Rattle.dp_actions.proofs.StatementLayers.{kind-Block, kind-Break, kind-Continue, kind-DoWhile, kind-Echo, kind-Empty, kind-Exit, kind-Expression, kind-For, kind-Foreach, kind-Global, kind-If, kind-Return, kind-Unset, kind-While, run-arm, run-statement}
-use Rattle.dp_meaning.proofs.ListLaws.{front, front-at, place_off, place_on, values-all, values-break, values-first, values-more}
+use Rattle.dp_actions.proofs.Layers.{found-plain, run-Array, run-Assign, run-Bool, run-Call, run-Chain, run-Coalesce, run-CoalesceAssign, run-Compound, run-Conditional, run-Constant, run-Include, run-Index, run-Isset, run-item-None, run-item-Some, run-link, run-Null, run-Number, run-place, run-Push, run-Step, run-Text, run-Unary, run-Variable}
+use Rattle.dp_actions.proofs.StatementLayers.{kind-Block, kind-Break, kind-Constants, kind-Continue, kind-DoWhile, kind-Echo, kind-Empty, kind-Exit, kind-Expression, kind-For, kind-Foreach, kind-Global, kind-If, kind-Return, kind-Unset, kind-While, run-arm, run-statement}
+use Rattle.dp_meaning.proofs.ListLaws.{constant_off, constant_on, front, front-at, place_off, place_on, values-all, values-break, values-first, values-more}
 use Rattle.dp_meaning.proofs.LoopLaws.{bind-breaks, body-breaks, body-out, do-body-breaks, do-body-out, do-end, do-goes-on, do-stops, do-test-breaks, each-body-breaks, each-goes-on, each-out, each-stops, next-breaks, test-breaks, turn-goes-on, turn-stops, turns-end}
-use Rattle.dp_meaning.proofs.SizeLaws.{arms_size, frame-callee, frame-file, frame_less, places_size, size-arm, size-Block, size-DoWhile, size-Echo, size-Exit, size-Expression, size-For, size-Foreach, size-If, size-in, size-Return, size-some, size-Unset, size-While, sized}
+use Rattle.dp_meaning.proofs.SizeLaws.{arms_size, frame-callee, frame-file, frame_less, places_size, size-arm, size-Block, size-Constants, size-definition, size-DoWhile, size-Echo, size-Exit, size-Expression, size-For, size-Foreach, size-If, size-in, size-Return, size-some, size-Unset, size-While, sized}
 use Rattle.dp_actions.proofs.Tails.{kept-none, kept-some, present-none, present-some}
 use Rattle.dp_meaning.proofs.evaluator.Evaluator.+evaluate.Goals as goal
 
@@ -36,6 +36,9 @@ expression-returns-in-Text g t c = rw (c.in-Text.is, run-Text) (at_once (c.text_
 
 pub expression-returns-in-Variable : goal.expression-returns-in-Variable
 expression-returns-in-Variable g t c = rw (c.in-Variable.is, run-Variable) (at_once c.variable_value.ensures)
+
+pub expression-returns-in-Constant : goal.expression-returns-in-Constant
+expression-returns-in-Constant g t c = rw (c.in-Constant.is, run-Constant) (at_once c.constant_value.ensures)
 
 pub expression-returns-in-Array : goal.expression-returns-in-Array
 expression-returns-in-Array g t c = rw (c.in-Array.is, run-Array) (rw c.as_slice.ensures at c.array.ensures)
@@ -100,17 +103,15 @@ values-loop-e-init g t c = λ x u e. values-first _ _ _ _ x u (rw c.new-values.e
 
 pub values-returns-in_err-expression : goal.values-returns-in_err-expression
 values-returns-in_err-expression g t c = exits c.from_residual.ensures.1 (c.loop-e.invariant _ _ (rw (front _
-    c.loop-e.e-index c.e-item.result c.loop-e-test.true c.e-item.is) (values-break _ _ _ _ _ _ _ _
-    c.in_err-expression.ensures)))
+    c.loop-e-test.true c.e-item.is) (values-break _ _ _ _ _ _ _ _ c.in_err-expression.ensures)))
 
 pub values-loop-e-preserved : goal.values-loop-e-preserved
-values-loop-e-preserved g t c = λ x u e. c.loop-e.invariant x u (rw (front _ c.loop-e.e-index c.e-item.result
-    c.loop-e-test.true c.e-item.is) (values-more _ _ _ _ _ _ _ _ x u c.in_ok-expression.ensures (rw
-    c.in_ok-push.ensures.items at e)))
+values-loop-e-preserved g t c = λ x u e. c.loop-e.invariant x u (rw (front _ c.loop-e-test.true c.e-item.is)
+    (values-more _ _ _ _ _ _ _ _ x u c.in_ok-expression.ensures (rw c.in_ok-push.ensures.items at e)))
 
 pub values-returns : goal.values-returns
-values-returns g t c = c.loop-e.invariant _ _ (rw (at_end c.args.all.now c.loop-e-test.false, c.of.ensures) (values-all
-    _ (goes_by c.args.self.now) _ _))
+values-returns g t c = c.loop-e.invariant _ _ (rw (at_end _ c.loop-e-test.false, c.of.ensures) (values-all _ (goes_by
+    c.args.self.now) _ _))
 
 pub inclusion-returns-in_err-value : goal.inclusion-returns-in_err-value
 inclusion-returns-in_err-value g t c = exits c.from_residual.ensures.1 (breaks_off _ c.in_err-value.ensures)
@@ -128,16 +129,15 @@ pub under-loop-e-init : goal.under-loop-e-init
 under-loop-e-init g t c = λ x u e. e
 
 pub under-returns-in_err-value : goal.under-returns-in_err-value
-under-returns-in_err-value g t c = exits c.from_residual.ensures.1 (c.loop-e.invariant _ _ (rw (front _ c.loop-e.e-index
-    c.e-item.result c.loop-e-test.true c.e-item.is) (joined_off _ _ _ (then_on c.expression-at.ensures
-    c.in_err-value.ensures))))
+under-returns-in_err-value g t c = exits c.from_residual.ensures.1 (c.loop-e.invariant _ _ (rw (front _
+    c.loop-e-test.true c.e-item.is) (joined_off _ _ _ (then_on c.expression-at.ensures c.in_err-value.ensures))))
 
 pub under-loop-e-preserved : goal.under-loop-e-preserved
-under-loop-e-preserved g t c = λ x u e. c.loop-e.invariant x u (rw (front _ c.loop-e.e-index c.e-item.result
-    c.loop-e-test.true c.e-item.is) (joined_on _ _ _ (then_on c.expression-at.ensures c.in_ok-value.ensures) e))
+under-loop-e-preserved g t c = λ x u e. c.loop-e.invariant x u (rw (front _ c.loop-e-test.true c.e-item.is) (joined_on _
+    _ _ (then_on c.expression-at.ensures c.in_ok-value.ensures) e))
 
 pub under-returns : goal.under-returns
-under-returns g t c = c.loop-e.invariant _ _ (rw (at_end c.args.indices.now c.loop-e-test.false) gives)
+under-returns g t c = c.loop-e.invariant _ _ (rw (at_end _ c.loop-e-test.false) gives)
 
 pub base-returns-in-Plain : goal.base-returns-in-Plain
 base-returns-in-Plain g t c = rw c.in-Plain.is c.expression.ensures
@@ -147,15 +147,14 @@ base-returns-in-Found g t c = rw c.in-Found.is c.found.ensures
 
 pub array-returns-in_err-array : goal.array-returns-in_err-array
 array-returns-in_err-array g t c = exits c.from_residual.ensures.1 (c.loop-item.invariant _ _ (rw (front _
-    c.loop-item.item-index c.item-item.result c.loop-item-test.true c.item-item.is) (breaks_off _
-    c.in_err-array.ensures)))
+    c.loop-item-test.true c.item-item.is) (breaks_off _ c.in_err-array.ensures)))
 
 pub array-loop-item-preserved : goal.array-loop-item-preserved
-array-loop-item-preserved g t c = λ x u e. c.loop-item.invariant x u (rw (front _ c.loop-item.item-index
-    c.item-item.result c.loop-item-test.true c.item-item.is) (goes_on _ c.in_ok-array.ensures e))
+array-loop-item-preserved g t c = λ x u e. c.loop-item.invariant x u (rw (front _ c.loop-item-test.true c.item-item.is)
+    (goes_on _ c.in_ok-array.ensures e))
 
 pub array-returns : goal.array-returns
-array-returns g t c = c.loop-item.invariant _ _ (rw (at_end c.args.items.now c.loop-item-test.false) gives)
+array-returns g t c = c.loop-item.invariant _ _ (rw (at_end _ c.loop-item-test.false) gives)
 
 pub item-returns-in-None : goal.item-returns-in-None
 item-returns-in-None g t c = rw (run-item-None c.args.item.now c.in-None.is) (then_on c.expression.ensures
@@ -179,15 +178,14 @@ chain-returns g t c = goes_on _ c.in_ok-value.ensures c.links.ensures
 
 pub links-returns-in_err-value : goal.links-returns-in_err-value
 links-returns-in_err-value g t c = exits c.from_residual.ensures.1 (c.loop-link.invariant _ _ (rw (front _
-    c.loop-link.link-index c.link-item.result c.loop-link-test.true c.link-item.is) (breaks_off _
-    c.in_err-value.ensures)))
+    c.loop-link-test.true c.link-item.is) (breaks_off _ c.in_err-value.ensures)))
 
 pub links-loop-link-preserved : goal.links-loop-link-preserved
-links-loop-link-preserved g t c = λ x u e. c.loop-link.invariant x u (rw (front _ c.loop-link.link-index
-    c.link-item.result c.loop-link-test.true c.link-item.is) (goes_on _ c.in_ok-value.ensures e))
+links-loop-link-preserved g t c = λ x u e. c.loop-link.invariant x u (rw (front _ c.loop-link-test.true c.link-item.is)
+    (goes_on _ c.in_ok-value.ensures e))
 
 pub links-returns : goal.links-returns
-links-returns g t c = c.loop-link.invariant _ _ (rw (at_end c.args.links.now c.loop-link-test.false) gives)
+links-returns g t c = c.loop-link.invariant _ _ (rw (at_end _ c.loop-link-test.false) gives)
 
 pub link-returns-then-holds : goal.link-returns-then-holds
 link-returns-then-holds g t c = rw (run-link, c.in-Or.is, sym c.holds.ensures ∙ c.if-holds.true) gives
@@ -284,42 +282,40 @@ coalesce_under-returns-in-None g t c = goes_on _ (at_once c.in_ok-old.ensures) (
 
 pub isset-returns-in_err-missing : goal.isset-returns-in_err-missing
 isset-returns-in_err-missing g t c = exits c.from_residual.ensures.1 (c.loop-place.invariant _ _ (rw (front _
-    c.loop-place.place-index c.place-item.result c.loop-place-test.true c.place-item.is) (place_off c.place-item.result
-    (drop (c.loop-place.place-index + 1) c.args.places.now) c.args.self.now _ c.in_err-missing.ensures)))
+    c.loop-place-test.true c.place-item.is) (place_off c.place-item.result (drop (c.loop-place.place-index + 1)
+    c.args.places.now) c.args.self.now _ c.in_err-missing.ensures)))
 
 pub isset-returns-then-missing : goal.isset-returns-then-missing
-isset-returns-then-missing g t c = c.loop-place.invariant _ _ (rw (front _ c.loop-place.place-index c.place-item.result
-    c.loop-place-test.true c.place-item.is) (place_on c.place-item.result (drop (c.loop-place.place-index + 1)
-    c.args.places.now) c.args.self.now _ c.in_ok-missing.ensures (rw c.if-missing.true gives)))
+isset-returns-then-missing g t c = c.loop-place.invariant _ _ (rw (front _ c.loop-place-test.true c.place-item.is)
+    (place_on c.place-item.result (drop (c.loop-place.place-index + 1) c.args.places.now) c.args.self.now _
+    c.in_ok-missing.ensures (rw c.if-missing.true gives)))
 
 pub isset-loop-place-preserved : goal.isset-loop-place-preserved
-isset-loop-place-preserved g t c = λ x u e. c.loop-place.invariant x u (rw (front _ c.loop-place.place-index
-    c.place-item.result c.loop-place-test.true c.place-item.is) (place_on c.place-item.result (drop
-    (c.loop-place.place-index + 1) c.args.places.now) c.args.self.now _ c.in_ok-missing.ensures (rw c.if-missing.false
-    e)))
+isset-loop-place-preserved g t c = λ x u e. c.loop-place.invariant x u (rw (front _ c.loop-place-test.true
+    c.place-item.is) (place_on c.place-item.result (drop (c.loop-place.place-index + 1) c.args.places.now)
+    c.args.self.now _ c.in_ok-missing.ensures (rw c.if-missing.false e)))
 
 pub isset-returns : goal.isset-returns
-isset-returns g t c = c.loop-place.invariant _ _ (rw (at_end c.args.places.now c.loop-place-test.false) gives)
+isset-returns g t c = c.loop-place.invariant _ _ (rw (at_end _ c.loop-place-test.false) gives)
 
 pub unset-returns-in_err-indices : goal.unset-returns-in_err-indices
 unset-returns-in_err-indices g t c = exits c.from_residual.ensures.1 (c.loop-place.invariant _ _ (rw (front _
-    c.loop-place.place-index c.place-item.result c.loop-place-test.true c.place-item.is) (rw run-place (breaks_off _ (rw
-    c.as_slice.ensures at c.in_err-indices.ensures)))))
+    c.loop-place-test.true c.place-item.is) (rw run-place (breaks_off _ (rw c.as_slice.ensures at
+    c.in_err-indices.ensures)))))
 
 pub unset-returns-in_err-unset_place : goal.unset-returns-in_err-unset_place
 unset-returns-in_err-unset_place g t c = exits c.from_residual-in_err-unset_place.ensures.1 (c.loop-place.invariant _ _
-    (rw (front _ c.loop-place.place-index c.place-item.result c.loop-place-test.true c.place-item.is) (rw run-place
-    (goes_on _ (rw c.as_slice.ensures at c.in_ok-indices.ensures) (breaks_off _ (at_once (rw
-    c.as_slice-in-loop-place.ensures at c.in_err-unset_place.ensures)))))))
+    (rw (front _ c.loop-place-test.true c.place-item.is) (rw run-place (goes_on _ (rw c.as_slice.ensures at
+    c.in_ok-indices.ensures) (breaks_off _ (at_once (rw c.as_slice-in-loop-place.ensures at
+    c.in_err-unset_place.ensures)))))))
 
 pub unset-loop-place-preserved : goal.unset-loop-place-preserved
-unset-loop-place-preserved g t c = λ x u e. c.loop-place.invariant x u (rw (front _ c.loop-place.place-index
-    c.place-item.result c.loop-place-test.true c.place-item.is) (rw run-place (goes_on _ (rw c.as_slice.ensures at
-    c.in_ok-indices.ensures) (goes_on _ (at_once (rw c.as_slice-in-loop-place.ensures at c.in_ok-unset_place.ensures))
-    e))))
+unset-loop-place-preserved g t c = λ x u e. c.loop-place.invariant x u (rw (front _ c.loop-place-test.true
+    c.place-item.is) (rw run-place (goes_on _ (rw c.as_slice.ensures at c.in_ok-indices.ensures) (goes_on _ (at_once (rw
+    c.as_slice-in-loop-place.ensures at c.in_ok-unset_place.ensures)) e))))
 
 pub unset-returns : goal.unset-returns
-unset-returns g t c = c.loop-place.invariant _ _ (rw (at_end c.args.places.now c.loop-place-test.false) gives)
+unset-returns g t c = c.loop-place.invariant _ _ (rw (at_end _ c.loop-place-test.false) gives)
 
 pub named-returns-in-None : goal.named-returns-in-None
 named-returns-in-None g t c = rw (sym c.look_up.ensures ∙ ap (option_map callee_of) c.in-None.is, c.fatal.ensures) ends
@@ -332,8 +328,7 @@ pub call_builtin-returns-in_err-values : goal.call_builtin-returns-in_err-values
 call_builtin-returns-in_err-values g t c = exits c.from_residual.ensures.1 (breaks_off _ c.in_err-values.ensures)
 
 pub call_builtin-returns : goal.call_builtin-returns
-call_builtin-returns g t c = goes_on _ c.in_ok-values.ensures (at_once (rw c.as_slice.ensures at
-    c.builtin_call.ensures))
+call_builtin-returns g t c = goes_on _ c.in_ok-values.ensures (at_once (rw c.as_slice.ensures at c.native_call.ensures))
 
 pub named-returns-in_err-values-in-Some-Declared : goal.named-returns-in_err-values-in-Some-Declared
 named-returns-in_err-values-in-Some-Declared g t c = exits c.from_residual.ensures.1 (rw (sym c.look_up.ensures ∙ ap
@@ -411,32 +406,26 @@ included-returns g t c = rw (by-file c.args.self.now c.args.file c.args.state.no
 
 pub body-returns-in_err-statement : goal.body-returns-in_err-statement
 body-returns-in_err-statement g t c = exits c.from_residual.ensures.1 (c.loop-statement.invariant _ _ (rw (front _
-    c.loop-statement.statement-index c.statement-item.result c.loop-statement-test.true c.statement-item.is) (breaks_off
-    _ c.in_err-statement.ensures)))
+    c.loop-statement-test.true c.statement-item.is) (breaks_off _ c.in_err-statement.ensures)))
 
 pub body-loop-statement-preserved : goal.body-loop-statement-preserved
-body-loop-statement-preserved g t c = λ x u e. c.loop-statement.invariant x u (rw (front _
-    c.loop-statement.statement-index c.statement-item.result c.loop-statement-test.true c.statement-item.is) (goes_on _
-    (rw c.in-Next.is at c.in_ok-statement.ensures) e))
+body-loop-statement-preserved g t c = λ x u e. c.loop-statement.invariant x u (rw (front _ c.loop-statement-test.true
+    c.statement-item.is) (goes_on _ (rw c.in-Next.is at c.in_ok-statement.ensures) e))
 
 pub body-returns-in-Break : goal.body-returns-in-Break
-body-returns-in-Break g t c = c.loop-statement.invariant _ _ (rw (front _ c.loop-statement.statement-index
-    c.statement-item.result c.loop-statement-test.true c.statement-item.is) (goes_on _ (rw c.in-Break.is at
-    c.in_ok-statement.ensures) gives))
+body-returns-in-Break g t c = c.loop-statement.invariant _ _ (rw (front _ c.loop-statement-test.true
+    c.statement-item.is) (goes_on _ (rw c.in-Break.is at c.in_ok-statement.ensures) gives))
 
 pub body-returns-in-Continue : goal.body-returns-in-Continue
-body-returns-in-Continue g t c = c.loop-statement.invariant _ _ (rw (front _ c.loop-statement.statement-index
-    c.statement-item.result c.loop-statement-test.true c.statement-item.is) (goes_on _ (rw c.in-Continue.is at
-    c.in_ok-statement.ensures) gives))
+body-returns-in-Continue g t c = c.loop-statement.invariant _ _ (rw (front _ c.loop-statement-test.true
+    c.statement-item.is) (goes_on _ (rw c.in-Continue.is at c.in_ok-statement.ensures) gives))
 
 pub body-returns-in-Return : goal.body-returns-in-Return
-body-returns-in-Return g t c = c.loop-statement.invariant _ _ (rw (front _ c.loop-statement.statement-index
-    c.statement-item.result c.loop-statement-test.true c.statement-item.is) (goes_on _ (rw c.in-Return.is at
-    c.in_ok-statement.ensures) gives))
+body-returns-in-Return g t c = c.loop-statement.invariant _ _ (rw (front _ c.loop-statement-test.true
+    c.statement-item.is) (goes_on _ (rw c.in-Return.is at c.in_ok-statement.ensures) gives))
 
 pub body-returns : goal.body-returns
-body-returns g t c = c.loop-statement.invariant _ _ (rw (at_end c.args.statements.now c.loop-statement-test.false)
-    gives)
+body-returns g t c = c.loop-statement.invariant _ _ (rw (at_end _ c.loop-statement-test.false) gives)
 
 pub statement-returns-in_err-place-in-Expression : goal.statement-returns-in_err-place-in-Expression
 statement-returns-in_err-place-in-Expression g t c = exits c.from_residual.ensures.1 (rw
@@ -526,6 +515,14 @@ statement-returns-in_ok-place-in-Unset g t c = rw (run-statement, c.in-Unset.is,
     c.in_ok-place-in-Unset.ensures (then_on (rw c.as_slice-in-Unset.ensures at c.unset.ensures)
     (c.then_signal-in-Unset.ensures _)))
 
+pub statement-returns-in_err-place-in-Constants : goal.statement-returns-in_err-place-in-Constants
+statement-returns-in_err-place-in-Constants g t c = exits c.from_residual-in_err-place-in-Constants.ensures.1 (rw
+    (run-statement, c.in-Constants.is, kind-Constants) (stops_at c.in_err-place-in-Constants.ensures))
+
+pub statement-returns-in_ok-place-in-Constants : goal.statement-returns-in_ok-place-in-Constants
+statement-returns-in_ok-place-in-Constants g t c = rw (run-statement, c.in-Constants.is, kind-Constants) (passes
+    c.in_ok-place-in-Constants.ensures (rw c.as_slice-in-Constants.ensures at c.constants.ensures))
+
 pub statement-returns-in_err-place-in-Exit : goal.statement-returns-in_err-place-in-Exit
 statement-returns-in_err-place-in-Exit g t c = exits c.from_residual-in_err-place-in-Exit.ensures.1 (rw
     (run-statement, c.in-Exit.is, kind-Exit) (stops_at c.in_err-place-in-Exit.ensures))
@@ -546,47 +543,57 @@ foreach-returns-in_err-subject g t c = exits c.from_residual.ensures.1 (breaks_o
 
 pub echo-returns-in_err-then_print : goal.echo-returns-in_err-then_print
 echo-returns-in_err-then_print g t c = exits c.from_residual.ensures.1 (c.loop-operand.invariant _ _ (rw (front _
-    c.loop-operand.operand-index c.operand-item.result c.loop-operand-test.true c.operand-item.is) (joined_off _
-    print_run _ (then_on c.expression.ensures c.in_err-then_print.ensures))))
+    c.loop-operand-test.true c.operand-item.is) (joined_off _ print_run _ (then_on c.expression.ensures
+    c.in_err-then_print.ensures))))
 
 pub echo-loop-operand-preserved : goal.echo-loop-operand-preserved
-echo-loop-operand-preserved g t c = λ x u e. c.loop-operand.invariant x u (rw (front _ c.loop-operand.operand-index
-    c.operand-item.result c.loop-operand-test.true c.operand-item.is) (joined_on _ print_run _ (then_on
-    c.expression.ensures c.in_ok-then_print.ensures) e))
+echo-loop-operand-preserved g t c = λ x u e. c.loop-operand.invariant x u (rw (front _ c.loop-operand-test.true
+    c.operand-item.is) (joined_on _ print_run _ (then_on c.expression.ensures c.in_ok-then_print.ensures) e))
 
 pub echo-returns : goal.echo-returns
-echo-returns g t c = c.loop-operand.invariant _ _ (rw (at_end c.args.operands.now c.loop-operand-test.false) gives)
+echo-returns g t c = c.loop-operand.invariant _ _ (rw (at_end _ c.loop-operand-test.false) gives)
+
+pub constants-returns-in_err-then_define : goal.constants-returns-in_err-then_define
+constants-returns-in_err-then_define g t c = exits c.from_residual.ensures.1 (c.loop-definition.invariant _ _
+    (constant_off _ c.loop-definition-test.true c.definition-item.is (goes_by c.args.self.now) _ (then_on
+    c.expression.ensures c.in_err-then_define.ensures)))
+
+pub constants-loop-definition-preserved : goal.constants-loop-definition-preserved
+constants-loop-definition-preserved g t c = λ x u e. c.loop-definition.invariant x u (constant_on _
+    c.loop-definition-test.true c.definition-item.is (goes_by c.args.self.now) _ (then_on c.expression.ensures
+    c.in_ok-then_define.ensures) e)
+
+pub constants-returns : goal.constants-returns
+constants-returns g t c = c.loop-definition.invariant _ _ (rw (at_end _ c.loop-definition-test.false) gives)
 
 pub arms-returns-in_err-place : goal.arms-returns-in_err-place
 arms-returns-in_err-place g t c = exits c.from_residual.ensures.1 (c.loop-arm.invariant _ _ (rw (front _
-    c.loop-arm.arm-index c.arm-item.result c.loop-arm-test.true c.arm-item.is) (rw run-arm (stops_at
-    c.in_err-place.ensures))))
+    c.loop-arm-test.true c.arm-item.is) (rw run-arm (stops_at c.in_err-place.ensures))))
 
 pub arms-returns-in_err-holds : goal.arms-returns-in_err-holds
 arms-returns-in_err-holds g t c = exits c.from_residual-in_err-holds.ensures.1 (c.loop-arm.invariant _ _ (rw (front _
-    c.loop-arm.arm-index c.arm-item.result c.loop-arm-test.true c.arm-item.is) (rw run-arm (passes c.in_ok-place.ensures
-    (tested_off _ (by-arm c.args.self.now c.arm-item.result (drop (c.loop-arm.arm-index + 1) c.args.arms.now)
-    c.args.otherwise.now) (then_on c.expression.ensures (c.in_err-holds.ensures _)))))))
+    c.loop-arm-test.true c.arm-item.is) (rw run-arm (passes c.in_ok-place.ensures (tested_off _ (by-arm c.args.self.now
+    c.arm-item.result (drop (c.loop-arm.arm-index + 1) c.args.arms.now) c.args.otherwise.now) (then_on
+    c.expression.ensures (c.in_err-holds.ensures _)))))))
 
 pub arms-returns-then-holds : goal.arms-returns-then-holds
-arms-returns-then-holds g t c = c.loop-arm.invariant _ _ (rw (front _ c.loop-arm.arm-index c.arm-item.result
-    c.loop-arm-test.true c.arm-item.is) (rw run-arm (passes c.in_ok-place.ensures (tested_on _ (by-arm c.args.self.now
-    c.arm-item.result (drop (c.loop-arm.arm-index + 1) c.args.arms.now) c.args.otherwise.now) (then_on
-    c.expression.ensures (c.in_ok-holds.ensures _)) (rw c.if-holds.true c.statement.ensures)))))
+arms-returns-then-holds g t c = c.loop-arm.invariant _ _ (rw (front _ c.loop-arm-test.true c.arm-item.is) (rw run-arm
+    (passes c.in_ok-place.ensures (tested_on _ (by-arm c.args.self.now c.arm-item.result (drop (c.loop-arm.arm-index +
+    1) c.args.arms.now) c.args.otherwise.now) (then_on c.expression.ensures (c.in_ok-holds.ensures _)) (rw
+    c.if-holds.true c.statement.ensures)))))
 
 pub arms-loop-arm-preserved : goal.arms-loop-arm-preserved
-arms-loop-arm-preserved g t c = λ x u e. c.loop-arm.invariant x u (rw (front _ c.loop-arm.arm-index c.arm-item.result
-    c.loop-arm-test.true c.arm-item.is) (rw run-arm (passes c.in_ok-place.ensures (tested_on _ (by-arm c.args.self.now
-    c.arm-item.result (drop (c.loop-arm.arm-index + 1) c.args.arms.now) c.args.otherwise.now) (then_on
-    c.expression.ensures (c.in_ok-holds.ensures _)) (rw c.if-holds.false e)))))
+arms-loop-arm-preserved g t c = λ x u e. c.loop-arm.invariant x u (rw (front _ c.loop-arm-test.true c.arm-item.is) (rw
+    run-arm (passes c.in_ok-place.ensures (tested_on _ (by-arm c.args.self.now c.arm-item.result (drop
+    (c.loop-arm.arm-index + 1) c.args.arms.now) c.args.otherwise.now) (then_on c.expression.ensures
+    (c.in_ok-holds.ensures _)) (rw c.if-holds.false e)))))
 
 pub arms-returns-in-None : goal.arms-returns-in-None
-arms-returns-in-None g t c = c.loop-arm.invariant _ _ (rw (at_end c.args.arms.now c.loop-arm-test.false) (rw
-    c.in-None.is gives))
+arms-returns-in-None g t c = c.loop-arm.invariant _ _ (rw (at_end _ c.loop-arm-test.false) (rw c.in-None.is gives))
 
 pub arms-returns-in-Some : goal.arms-returns-in-Some
-arms-returns-in-Some g t c = c.loop-arm.invariant _ _ (rw (at_end c.args.arms.now c.loop-arm-test.false) (rw
-    c.in-Some.is (rw c.as_ref.ensures at c.statement-in-Some.ensures)))
+arms-returns-in-Some g t c = c.loop-arm.invariant _ _ (rw (at_end _ c.loop-arm-test.false) (rw c.in-Some.is (rw
+    c.as_ref.ensures at c.statement-in-Some.ensures)))
 
 pub return_value-returns-in-None : goal.return_value-returns-in-None
 return_value-returns-in-None g t c = rw c.in-None.is gives
@@ -762,6 +769,14 @@ statement-return_value-requires g t c = let size = sized c.args.statement.now c.
 pub statement-unset-requires : goal.statement-unset-requires
 statement-unset-requires g t c = let size = sized c.args.statement.now c.in-Unset.is (size-Unset c.in-Unset.places) in λ
     κs h. (omega (arith, size, ap places_size c.as_slice-in-Unset.ensures, c.decreases), h)
+
+pub statement-constants-requires : goal.statement-constants-requires
+statement-constants-requires g t c = let size = sized c.args.statement.now c.in-Constants.is (size-Constants _) in λ κs
+    h. (omega (arith, size, ap definitions_size c.as_slice-in-Constants.ensures, c.decreases), h)
+
+pub constants-expression-requires : goal.constants-expression-requires
+constants-expression-requires g t c = let size = size-definition c.args.all.now _ c.definition-item.result
+    c.loop-definition-test.true c.definition-item.is in λ κs h. (omega (arith, size, c.decreases), h)
 
 pub statement-exit-requires : goal.statement-exit-requires
 statement-exit-requires g t c = let size = sized c.args.statement.now c.in-Exit.is (size-Exit c.in-Exit.value) in λ κs

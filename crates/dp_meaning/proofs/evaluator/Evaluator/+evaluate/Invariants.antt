@@ -22,8 +22,8 @@ use Rattle.dp_actions.specs.Expressions.{item_run_of, link_run}
 use Rattle.dp_actions.specs.Loops.{do_turns, each_run, entries, turns}
 use Rattle.dp_actions.specs.Places.{isset_run, unset_run}
 use Rattle.dp_actions.specs.Bodies.{statements_of}
-use Rattle.dp_meaning.specs.inner.Sizes.{arm_size, body_size, expression_size, expressions_size, frame_size, optional_size, sizes_sum, statement_size}
-use Rattle.dp_actions.specs.Statements.{arms_run, body_run, echoes, statement_run}
+use Rattle.dp_meaning.specs.inner.Sizes.{arm_size, body_size, definitions_size, expression_size, expressions_size, frame_size, optional_size, sizes_sum, statement_size}
+use Rattle.dp_actions.specs.Statements.{arms_run, body_run, constants_run, echoes, statement_run}
 use Rattle.dp_actions.specs.Statements.{arm_run}
 use Rattle.dp_meaning.proofs.ListLaws.{more_values}
 use Rattle.dp_meaning.proofs.evaluator.Evaluator.+evaluate.Given as goal
@@ -87,6 +87,9 @@ abbrev pub decreases-conditional : goal.decreases-conditional
 decreases-conditional g l =
     l.self.now.depth * frame_size l.self.now.bundle.now + (4 * max (size-Expression l.test.now) (max
     (option_map_or size-Expression l.middle.now 0) (size-Expression l.otherwise.now)) + 3)
+
+abbrev pub decreases-constants : goal.decreases-constants
+decreases-constants g l = l.self.now.depth * frame_size l.self.now.bundle.now + (definitions_size l.all.now + 1)
 
 abbrev pub decreases-do_turns : goal.decreases-do_turns
 decreases-do_turns g l =
@@ -228,6 +231,12 @@ invariant-echo-loop-operand g l = (x : Result Signal Halt) (t : State)
     (goes_by l.self) l.state) x t
     → Evaluates (g.O.Outside.rules l.self.outside.now) (echoes (map expression_run l.operands)
     (goes_by l.self) l.fn.state) x t
+
+abbrev pub invariant-constants-loop-definition : goal.invariant-constants-loop-definition
+invariant-constants-loop-definition g l = (x : Result Signal Halt) (t : State)
+    → Evaluates (g.O.Outside.rules l.self.outside.now) (constants_run (drop l.definition-index l.all)
+    (goes_by l.self) l.state) x t
+    → Evaluates (g.O.Outside.rules l.self.outside.now) (constants_run l.all (goes_by l.self) l.fn.state) x t
 
 abbrev pub invariant-arms-loop-arm : goal.invariant-arms-loop-arm
 invariant-arms-loop-arm g l = (x : Result Signal Halt) (t : State)

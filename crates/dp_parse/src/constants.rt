@@ -1,0 +1,152 @@
+//! Constants that a file defines by `const`. What is read of it stands before the first token of a variable, an
+//! `isset`, an include or a call, so nothing of those is read into it.
+
+ghost use Rattle.std.specs.Prelude.{◌≡◌, ◌∷◌, false, ⊤, IfOk};
+ghost use Rattle.dp_token_rules.specs.inner.Input.{Reads};
+ghost use Rattle.dp_parse.specs.Statements as grammar;
+ghost use Rattle.dp_parse.specs.inner.StatementRules as spec;
+ghost use Rattle.dp_parse.specs.inner.Within as limited;
+
+use crate::ended::{Body, Ended, stated, whole};
+use crate::levels::expression;
+use dp_expressions::both;
+use dp_token_rules::{Piece, Refusal, Terminal, Tokens, many};
+use dp_tree::{Definition, StatementKind};
+use dp_value::{Items, Memory};
+use std::alloc::Global;
+
+/// Whether no constant's expression goes on with a token of this sort, behind a name or not.
+fn breaks(is_named: bool, terminal: Terminal) -> bool
+    ensures { result ≡ grammar.breaks is_named terminal }
+{
+    match terminal {
+        Terminal::Variable
+        | Terminal::Superglobal
+        | Terminal::Isset
+        | Terminal::Include
+        | Terminal::Require
+        | Terminal::Increment
+        | Terminal::Decrement
+        | Terminal::Semicolon => true,
+        Terminal::OpenParenthesis => is_named,
+        _ => false,
+    }
+}
+
+/// How many of these tokens stand before the first with which a constant's expression does not go on.
+#[tactic(auto, using(std::proofs::lemmas::List::take_all, crate::proofs::FixedAnswers::none_fixed, crate::proofs::FixedAnswers::one_fixed, crate::proofs::FixedAnswers::no_tokens, crate::proofs::FixedAnswers::one_less))]
+fn fixed_len(tokens: &Tokens<'_>) -> usize
+    ensures { result ≡ spec.fixed_len false tokens.now }
+{
+    let left = tokens.left();
+    let mut rest = tokens.front(left);
+    let mut is_named = false;
+    for at in 0..left {
+        if breaks(is_named, rest.peek()) {
+            return at;
+        }
+        is_named = rest.sees(Terminal::Name);
+        rest.skip(1);
+    }
+    left
+}
+
+/// A name, `=` and its value.
+#[tactic(auto, unfolding(crate::specs::inner::StatementRules::definition))]
+fn definition(alloc: Global, tokens: &mut Tokens<'_>) -> Result<Definition, Refusal>
+    ensures { Reads (spec.definition limited.expression tokens.old) result tokens.new }
+{
+    let name = tokens.name(alloc)?;
+    let (name, _) = both(name, tokens.mark(Terminal::Assign))?;
+    let (name, value) = both(name, expression(alloc, tokens))?;
+    Ok(Definition { name, value })
+}
+
+/// A definition behind a comma.
+#[derive(Drop)]
+struct NextDefinition {
+    alloc: Global,
+}
+
+impl Piece<Definition> for NextDefinition {
+    ghost reads = { λ _. spec.next_definition limited.expression };
+
+    ghost ready = { λ _. ⊤ };
+
+    fn read(&self, tokens: &mut Tokens<'_>) -> Result<Definition, Refusal> {
+        tokens.mark(Terminal::Comma)?;
+        definition(self.alloc, tokens)
+    }
+}
+
+/// These definitions behind the first.
+fn in_front(first: Definition, more: Items<Definition>) -> Result<Items<Definition>, Memory>
+    ensures { IfOk result (λ all. all ≡ first ∷ more) }
+{
+    let mut values = more.into_vec();
+    values.insert(0, first)?;
+    Ok(Items::of(values))
+}
+
+/// The word, and one definition or more behind it.
+#[tactic(auto, unfolding(crate::specs::inner::StatementRules::definitions))]
+fn definitions(alloc: Global, tokens: &mut Tokens<'_>) -> Result<Items<Definition>, Refusal>
+    ensures { Reads (spec.definitions limited.expression tokens.old) result tokens.new }
+{
+    tokens.mark(Terminal::Const)?;
+    let first = definition(alloc, tokens)?;
+    let (first, more) = both(
+        first,
+        many(alloc, tokens, Terminal::Comma, &NextDefinition { alloc }),
+    )?;
+    Ok(in_front(first, more)?)
+}
+
+/// A refusal among the first so many of all, by how many are left of all.
+fn among_all(all: usize, first: usize, refusal: Refusal) -> Refusal
+    ensures { result ≡ spec.among_all all first refusal }
+{
+    match refusal {
+        Refusal::Unexpected(left) => Refusal::Unexpected(all.saturating_sub(first.saturating_sub(
+            left,
+        ))),
+        Refusal::TooDeep(left) => Refusal::TooDeep(all.saturating_sub(first.saturating_sub(left))),
+        Refusal::Memory => Refusal::Memory,
+    }
+}
+
+/// The definitions of a `const`, read of the tokens that may stand in it.
+#[tactic(auto, unfolding(crate::specs::inner::StatementRules::fixed))]
+fn fixed_definitions(alloc: Global, tokens: &mut Tokens<'_>) -> Result<Items<Definition>, Refusal>
+    ensures { Reads (spec.fixed (spec.definitions limited.expression) tokens.old) result tokens.new }
+{
+    let first = fixed_len(tokens);
+    let mut front = tokens.front(first);
+    match definitions(alloc, &mut front) {
+        Ok(all) => {
+            tokens.skip(first.saturating_sub(front.left()));
+            Ok(all)
+        }
+        Err(refusal) => Err(among_all(tokens.left(), first, refusal)),
+    }
+}
+
+/// Reads a `const` up to its `;`.
+#[tactic(auto, unfolding(crate::specs::inner::StatementRules::constants_rule))]
+fn constants_rule(alloc: Global, tokens: &mut Tokens<'_>) -> Result<Ended, Refusal>
+    ensures { Reads (spec.constants_rule limited.expression tokens.old) result tokens.new }
+{
+    let all = fixed_definitions(alloc, tokens)?;
+    let (all, _) = both(all, tokens.mark(Terminal::Semicolon))?;
+    whole(alloc, tokens, StatementKind::Constants(all))
+}
+
+/// A `const` with the line of its word.
+#[tactic(auto, unfolding(crate::specs::inner::StatementRules::on_its_line))]
+pub(crate) fn constants(alloc: Global, tokens: &mut Tokens<'_>) -> Result<Body, Refusal>
+    ensures { Reads (spec.on_its_line (spec.constants_rule limited.expression) tokens.old) result tokens.new }
+{
+    let line = tokens.line();
+    let found = constants_rule(alloc, tokens)?;
+    Ok(stated(alloc, line, found)?)
+}

@@ -1,0 +1,94 @@
+//! Constants: those that are there from the start, and those that a program defines.
+
+ghost use Rattle.std.specs.Prelude.{◌≡◌, is_some, not, option_map, IfOk, OnErr, OnOk};
+ghost use Rattle.std.specs.Map.{lookup};
+ghost use Rattle.std.specs.Str.{bytes_eq};
+ghost use Rattle.dp_state.specs.Constants as spec;
+ghost use Rattle.dp_state.specs.Variables.{slot_of, value_held};
+
+use crate::state::State;
+use crate::vars::{Slot, Vars};
+use dp_value::{Bytes, Memory, Text, Value};
+use std::alloc::Global;
+
+/// Whether a constant of this name is there from the start.
+fn is_standing(name: &[u8]) -> bool
+    ensures { result ≡ is_some (lookup (bytes_eq name.now) spec.standing) }
+{
+    name == b"PHP_EOL".as_slice()
+        || name == b"PHP_INT_MAX".as_slice()
+        || name == b"PHP_INT_MIN".as_slice()
+}
+
+/// The value of a constant that is there from the start.
+fn standing(alloc: Global, name: &[u8]) -> Result<Option<Value>, Memory>
+    ensures { IfOk result (λ value. value ≡ lookup (bytes_eq name.now) spec.standing) }
+{
+    if name == b"PHP_EOL".as_slice() {
+        return Ok(Some(Value::Text(Text::from_slice(alloc, b"\n")?)));
+    }
+    if name == b"PHP_INT_MAX".as_slice() {
+        return Ok(Some(Value::Int(i64::MAX)));
+    }
+    if name == b"PHP_INT_MIN".as_slice() {
+        return Ok(Some(Value::Int(i64::MIN)));
+    }
+    Ok(None)
+}
+
+/// The value of a constant that the program has defined.
+fn held<'a>(constants: &'a Vars, name: &Bytes) -> Option<&'a Value>
+    ensures { option_map (λ value. value.now) result ≡ value_held (slot_of constants.now name.now) }
+{
+    match constants.get(name) {
+        None => None,
+        Some(Slot::Bound) => None,
+        Some(Slot::Held(value)) => Some(value),
+    }
+}
+
+/// A value of two owners, if there is one.
+fn copied(found: Option<&Value>) -> Result<Option<Value>, Memory>
+    ensures { IfOk result (λ copy. copy ≡ option_map (λ value. value.now) found.entry) }
+{
+    match found {
+        None => Ok(None),
+        Some(value) => Ok(Some(value.try_clone()?)),
+    }
+}
+
+impl State {
+    /// The value of a constant, found by its name in its case of letters.
+    pub fn constant(&self, name: &Bytes) -> Result<Option<Value>, Memory>
+        ensures { IfOk result (λ value. value ≡ spec.constant name.now self.now) }
+    {
+        match standing(self.allocator(), name.as_slice())? {
+            Some(value) => Ok(Some(value)),
+            None => copied(held(&self.constants, name)),
+        }
+    }
+
+    /// Whether there is a constant of this name. Takes no memory.
+    pub fn has_constant(&self, name: &Bytes) -> bool
+        ensures { result ≡ is_some (spec.constant name.now self.now) }
+    {
+        match held(&self.constants, name) {
+            Some(_) => true,
+            None => is_standing(name.as_slice()),
+        }
+    }
+
+    /// Defines a constant, and says whether it did: where there is one of this name, that keeps its value. After out of
+    /// memory the state is as before.
+    pub fn define(&mut self, name: &Bytes, value: Value) -> Result<bool, Memory>
+        ensures new { IfOk result (λ new. new ≡ not (is_some (spec.constant name.now self.old))) }
+        ensures ok { OnOk result (self.new ≡ spec.with_constant name.now value self.old) }
+        ensures err { OnErr result (self.new ≡ self.old) }
+    {
+        if self.has_constant(name) {
+            return Ok(false);
+        }
+        self.constants.set(name.try_clone()?, Slot::Held(value))?;
+        Ok(true)
+    }
+}
