@@ -6,7 +6,7 @@ use Rattle.dp_state.specs.declared.moments.Outcome.{Outcome}
 use Rattle.dp_state.specs.declared.state.State.{State}
 use Rattle.dp_actions.specs.declared.halt.Halt.{Halt}
 use Rattle.dp_actions.specs.declared.halt.Halt.TheVariants.{Memory, Finished, Stopped}
-use Rattle.dp_actions.specs.AtOnce.{AtOnce, Leaves}
+use Rattle.dp_actions.specs.AtOnce.{AtOnce, EndsSurely, Leaves}
 use Rattle.dp_actions.specs.Run.{Run, Done, Over, and_then}
 
 module _ {A : Type 0} where
@@ -18,6 +18,19 @@ module _ {A : Type 0} where
 
   pub wants_memory : {r : Run A} {s : State} → AtOnce r (Err Memory) s
   wants_memory = record { leaves = tt }
+
+-- ---- what is answered whatever memory there is
+
+module _ {A : Type 0} where
+  pub surely_done : {a : A} {s : State} {r : Result A Halt} → EndsSurely (Done a s) r
+  surely_done o t is = cc
+
+  pub surely_over : {o : Outcome} {s : State} → EndsSurely {A = A} (Over o s) (Err (Finished o))
+  surely_over {o} p t is =
+      let same : o ≡ p = cc in
+      ap (λ (q : Outcome). let r : Result A Halt = Err (Finished q) in r) same
+
+-- ---- one part after another
 
 -- the first part breaks off
 off : {A B : Type 0} (h : Halt) (s : State) (r : Run A) (next : A → State → Run B) → Leaves {A = A} r (Err h) s
@@ -48,4 +61,4 @@ pub exits : {B : Type 0} {run : Run B} {s : State} (h : Halt) (x : Result B Halt
     → AtOnce run (Err h) s → AtOnce run x s
 exits {B} {run} {s} h x i e = let p = err_from_is_err_and x i in rw (p.1, p.2) e
 
-pub ruleset acting = (gives, ends, wants_memory, breaks_off, goes_on)
+pub ruleset acting = (gives, ends, wants_memory, surely_done, surely_over, breaks_off, goes_on)

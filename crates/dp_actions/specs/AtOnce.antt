@@ -1,5 +1,6 @@
 -- What is done at once: a run that has no moment, and what a call answers of it.
 use Rattle.std.specs.Prelude.{◌≡◌, Result, Ok, Err}
+use Rattle.dp_state.specs.declared.moments.Outcome.{Outcome}
 use Rattle.dp_state.specs.declared.moments.Outcome.TheVariants.{Fatal}
 use Rattle.dp_state.specs.declared.state.Fault.{Fault}
 use Rattle.dp_state.specs.declared.state.Fault.TheVariants as fault
@@ -18,6 +19,10 @@ Leaves run (Err Memory) s = Unit {0}
 
 pub record AtOnce {A : Type 0} (run : Run A) (result : Result A Halt) (s : State) : Type 0 where
   pub leaves : Leaves run result s
+
+-- a run by which the program is over is answered as over, whatever memory there is
+abbrev pub EndsSurely : {A : Type 0} → Run A → Result A Halt → Type 0
+EndsSurely run result = (o : Outcome) (s : State) → run ≡ Over o s → result ≡ Err (Finished o)
 
 -- what a refused step is to a call
 abbrev pub halt_of : Fault → State → Halt

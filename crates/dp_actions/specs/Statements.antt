@@ -56,14 +56,14 @@ echoes [] setting s = Done Next s
 echoes (first ∷ rest) setting s = first.value setting s >>= echoed (echoes rest setting)
 
 -- a constant gets a value, unless there is one of its name, and then come the others
-abbrev pub defined_then : List ℕ → (State → Run Signal) → Value → State → Run Signal
-defined_then name rest v s = rest (with_constant name v s)
+abbrev pub constant_then : List ℕ → (State → Run Signal) → Value → State → Run Signal
+constant_then name rest v s = rest (with_constant name v s)
 
 -- `const`: each value is evaluated and its constant defined before the next
 abbrev pub constants_run : List Definition → Part Signal
 constants_run [] setting s = Done Next s
 constants_run (first ∷ rest) setting s =
-    evaluation first.value setting s >>= defined_then first.name (constants_run rest setting)
+    evaluation first.value setting s >>= constant_then first.name (constants_run rest setting)
 
 -- the arms of an `if`, and what is done where no test holds
 abbrev pub arms_run : List ArmRun → Option (Part Signal) → Part Signal

@@ -3,10 +3,11 @@
 #![tactic(auto, using(crate::proofs::AtOnceLaws::acting))]
 
 ghost use Rattle.std.specs.Prelude.{◌≡◌};
+ghost use Rattle.dp_tree.specs.declared.operators.Native.TheVariants as native;
 ghost use Rattle.dp_value.specs.declared.value.Value.TheVariants as variant;
 ghost use Rattle.dp_state.specs.Constants.{with_constant};
 ghost use Rattle.dp_actions.specs.After.{Then};
-ghost use Rattle.dp_actions.specs.AtOnce.{AtOnce};
+ghost use Rattle.dp_actions.specs.AtOnce.{AtOnce, EndsSurely};
 ghost use Rattle.dp_actions.specs.Calls.{native_run};
 ghost use Rattle.dp_actions.specs.Constants as spec;
 ghost use Rattle.dp_actions.specs.Run.{Done};
@@ -22,7 +23,8 @@ use std::alloc::Global;
 
 /// The value of a constant, which has to be there.
 pub fn constant_value(name: &Bytes, state: &State) -> Result<Value, Halt>
-    ensures { AtOnce (spec.constant_run name.now state.now) result state.now }
+    ensures run { AtOnce (spec.constant_run name.now state.now) result state.now }
+    ensures sure { EndsSurely (spec.constant_run name.now state.now) result }
 {
     match state.constant(name)? {
         Some(value) => Ok(value),
@@ -41,7 +43,8 @@ fn is_literal(name: &[u8]) -> bool
 
 /// Defines a constant, and says whether it did. Its name has to be one that a program may give.
 fn defining(alloc: Global, name: &[u8], value: &Value, state: &mut State) -> Result<Value, Halt>
-    ensures { AtOnce (spec.defining name.now value.now state.old) result state.new }
+    ensures run { AtOnce (spec.defining name.now value.now state.old) result state.new }
+    ensures sure { EndsSurely (spec.defining name.now value.now state.old) result }
 {
     if !is_given(name) {
         return Err(fatal(FatalKind::Unsupported, state));
@@ -53,7 +56,8 @@ fn defining(alloc: Global, name: &[u8], value: &Value, state: &mut State) -> Res
 
 /// `define`, of two values.
 fn define_as(alloc: Global, name: &Value, value: &Value, state: &mut State) -> Result<Value, Halt>
-    ensures { AtOnce (spec.define_as name.now value.now state.old) result state.new }
+    ensures run { AtOnce (spec.define_as name.now value.now state.old) result state.new }
+    ensures sure { EndsSurely (spec.define_as name.now value.now state.old) result }
 {
     match name {
         Value::Text(name) => defining(alloc, name.as_slice(), value, state),
@@ -66,7 +70,8 @@ fn define_as(alloc: Global, name: &Value, value: &Value, state: &mut State) -> R
 
 /// `define`
 fn define(alloc: Global, values: &[Value], state: &mut State) -> Result<Value, Halt>
-    ensures { AtOnce (spec.define_run values.now state.old) result state.new }
+    ensures run { AtOnce (spec.define_run values.now state.old) result state.new }
+    ensures sure { EndsSurely (spec.define_run values.now state.old) result }
 {
     match values {
         [name, value] => define_as(alloc, name, value, state),
@@ -76,7 +81,8 @@ fn define(alloc: Global, values: &[Value], state: &mut State) -> Result<Value, H
 
 /// Whether there is a constant of this name, or it is `true`, `false` or `null`.
 fn is_there(alloc: Global, name: &[u8], state: &State) -> Result<Value, Halt>
-    ensures { AtOnce (spec.defined_as (variant.Text name.now) state.now) result state.now }
+    ensures run { AtOnce (spec.defined_as (variant.Text name.now) state.now) result state.now }
+    ensures sure { EndsSurely (spec.defined_as (variant.Text name.now) state.now) result }
 {
     if is_literal(name) {
         return Ok(Value::Bool(true));
@@ -87,7 +93,8 @@ fn is_there(alloc: Global, name: &[u8], state: &State) -> Result<Value, Halt>
 
 /// `defined`, of one value.
 fn defined_as(alloc: Global, name: &Value, state: &State) -> Result<Value, Halt>
-    ensures { AtOnce (spec.defined_as name.now state.now) result state.now }
+    ensures run { AtOnce (spec.defined_as name.now state.now) result state.now }
+    ensures sure { EndsSurely (spec.defined_as name.now state.now) result }
 {
     match name {
         Value::Text(name) => is_there(alloc, name.as_slice(), state),
@@ -100,7 +107,8 @@ fn defined_as(alloc: Global, name: &Value, state: &State) -> Result<Value, Halt>
 
 /// `defined`
 fn defined(alloc: Global, values: &[Value], state: &State) -> Result<Value, Halt>
-    ensures { AtOnce (spec.defined_run values.now state.now) result state.now }
+    ensures run { AtOnce (spec.defined_run values.now state.now) result state.now }
+    ensures sure { EndsSurely (spec.defined_run values.now state.now) result }
 {
     match values {
         [name] => defined_as(alloc, name, state),
@@ -115,7 +123,9 @@ pub fn native_call(
     values: &[Value],
     state: &mut State,
 ) -> Result<Value, Halt>
-    ensures { AtOnce (native_run function values.now state.old) result state.new }
+    ensures run { AtOnce (native_run function values.now state.old) result state.new }
+    ensures define { function ≡ native.Define → EndsSurely (spec.define_run values.now state.old) result }
+    ensures defined { function ≡ native.Defined → EndsSurely (spec.defined_run values.now state.old) result }
 {
     match function {
         Native::Table(builtin) => builtin_call(alloc, builtin, values, state),

@@ -1,6 +1,7 @@
 -- The words of the grammar, and the words that name nothing. Neither has a case.
 use Rattle.std.specs.Prelude.{ℕ, if◌then◌else◌, List, [], ◌∷◌, codes, Option, Some, None, is_some, Bool, ◌||◌}
 use Rattle.std.specs.List.{list_any}
+use Rattle.std.specs.Option.{option_or}
 use Rattle.std.specs.Str.{str_eq_ignore_ascii_case}
 use Rattle.dp_lexer.specs.declared.token.TokenKind.{TokenKind}
 use Rattle.dp_lexer.specs.declared.token.TokenKind.TheVariants as kind
@@ -27,13 +28,10 @@ expression_words =
     ∷ (codes "isset", kind.Isset) ∷ (codes "null", kind.Null) ∷ (codes "require", kind.Require)
     ∷ (codes "true", kind.True) ∷ []
 
-abbrev pub or_else : Option TokenKind → Option TokenKind → Option TokenKind
-or_else (Some k) other = Some k
-or_else None other = other
-
 -- the keyword that a name is, in any case of letters
 abbrev pub keyword_of : List ℕ → Option TokenKind
-keyword_of name = or_else (look_up_word name statement_words) (look_up_word name expression_words)
+keyword_of name =
+    option_or (look_up_word name statement_words) (look_up_word name expression_words)
 
 -- what a name is: a keyword or itself
 abbrev pub name_or : Option TokenKind → List ℕ → TokenKind

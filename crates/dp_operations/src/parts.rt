@@ -11,6 +11,7 @@ ghost use Rattle.dp_operations.specs.Parts.{end_of, join_by, part_of, start_of, 
 ghost use Rattle.dp_operations.specs.Text.{text_of};
 
 use crate::arguments::double;
+use crate::arrays::values;
 use crate::texts::text_bytes;
 use dp_value::{CallError, Memory, Text, Value, WEIGHT_LIMIT};
 use std::alloc::Global;
@@ -126,7 +127,7 @@ pub(crate) fn joining(alloc: Global, args: &[&Value]) -> Result<Value, CallError
     };
     match (a, b) {
         (Value::Text(glue), Value::Array(array)) => {
-            joined(alloc, glue.as_slice(), array.values())
+            joined(alloc, glue.as_slice(), values(alloc, array)?.as_slice())
         }
         _ => Err(CallError::Unsupported),
     }

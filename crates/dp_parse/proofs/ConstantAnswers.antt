@@ -18,15 +18,15 @@ use Rattle.dp_token_rules.specs.Rules.{Many}
 use Rattle.dp_token_rules.specs.TokenValues.{name_in, by_kind}
 use Rattle.dp_expressions.specs.Grammar.{IsExpression}
 use Rattle.dp_expressions.specs.inner.Readers.{reading}
-use Rattle.dp_parse.specs.Statements.{Depth, whole, stated, defined_as, DefinitionRule, NextDefinition, Definitions, ConstantsRule}
-use Rattle.dp_parse.specs.inner.StatementRules.{on_its_line, body_below, definition, next_definition, definitions, fixed, constants_rule}
+use Rattle.dp_parse.specs.Statements.{Depth, whole, stated, definition_of, DefinitionRule, NextDefinition, Definitions, ConstantsRule}
+use Rattle.dp_parse.specs.inner.StatementRules.{on_its_line, body_below, definition, next_definition, definitions, of_constants, constants_rule}
 use Rattle.dp_token_rules.proofs.Terminals.{and_parts, both, not_true, mark_passes}
 use Rattle.dp_token_rules.proofs.Answers.{Rules, Anything, JoinedAt, GivesAt, OneAt, MarkAt, MadeAt, ManyAt, OnLineAt, Answers, Follows, StartsIn, give, given, mark_starts, joined_starts, made_starts, online_starts, starts_in_more, gives_follow, made_answers, online_answers}
 use Rattle.dp_token_rules.proofs.Loops.{closed_follows, many_none, many_answers}
 use Rattle.dp_parse.proofs.StatementReaders.{Deeper, same_depth, IsPartReader, gives_reader, joined_reader, then_reader, made_reader, mark_then, before_mark}
 use Rattle.dp_parse.proofs.StatementParts.{AreRead, ExpressionAt, kind_reader, expression_reader}
-use Rattle.dp_parse.proofs.FixedRules.{definitions_good}
-use Rattle.dp_parse.proofs.FixedAnswers.{FixedAt, fixed_answers}
+use Rattle.dp_parse.proofs.ConstantRules.{definitions_good}
+use Rattle.dp_parse.proofs.ConstantFronts.{OfConstantsAt, of_constants_answers}
 
 abbrev DefinitionAt : Rules Depth Definition
 DefinitionAt m = DefinitionRule (IsExpression m.expressions)
@@ -50,13 +50,13 @@ MoreAt first = MadeAt (ManyAt NextAt) (λ more. first ∷ more)
 next_starts : StartsIn NextAt (is terminal.Comma)
 next_starts = joined_starts (MarkAt terminal.Comma) (λ _. DefinitionAt) (is terminal.Comma) (mark_starts terminal.Comma)
 
-fixed_starts : StartsIn (FixedAt DefinitionsAt) (is terminal.Const)
-fixed_starts m text a h =
+of_constants_starts : StartsIn (OfConstantsAt DefinitionsAt) (is terminal.Const)
+of_constants_starts m text a h =
     joined_starts (MarkAt terminal.Const) (λ _. JoinedAt DefinitionAt MoreAt) (is terminal.Const)
     (mark_starts terminal.Const) m text a h.spelled
 
 constants_starts : StartsIn ConstantsAt (is terminal.Const)
-constants_starts = joined_starts (FixedAt DefinitionsAt) _ (is terminal.Const) fixed_starts
+constants_starts = joined_starts (OfConstantsAt DefinitionsAt) _ (is terminal.Const) of_constants_starts
 
 pub constants_line_starts : StartsIn ConstantsLineAt (is terminal.Const)
 constants_line_starts =
@@ -93,12 +93,13 @@ module _ (ends place_ends : Terminal → Bool) (known : AreRead ends place_ends)
     unfolding definition
     definition_reader =
         then_reader 0 depth (OneAt (by_kind name_in)) (λ name. JoinedAt (MarkAt terminal.Assign)
-        (λ _. MadeAt ExpressionAt (defined_as name))) between (kind name_in)
-        (λ name. mark terminal.Assign >> made expression (defined_as name))
+        (λ _. MadeAt ExpressionAt (definition_of name))) between (kind name_in)
+        (λ name. mark terminal.Assign >> made expression (definition_of name))
         (kind_reader 0 depth name_in (kind.Name (97 ∷ [])) (97 ∷ []) refl)
-        (λ name. mark_then 0 depth terminal.Assign kind.Assign refl (λ _. MadeAt ExpressionAt (defined_as name)) between
-        (λ _. made expression (defined_as name))
-        (λ _. made_reader 0 depth ExpressionAt (defined_as name) between between expression (λ a s e. e)
+        (λ name. mark_then 0 depth terminal.Assign kind.Assign refl
+        (λ _. MadeAt ExpressionAt (definition_of name)) between
+        (λ _. made expression (definition_of name))
+        (λ _. made_reader 0 depth ExpressionAt (definition_of name) between between expression (λ a s e. e)
         (expression_reader 0 depth 0 (body_below depth.expressions depth.bodies) ends place_ends known)))
 
     next_reader : IsPartReader 0 NextAt between depth (next_definition expression)
@@ -134,24 +135,25 @@ module _ (ends place_ends : Terminal → Bool) (known : AreRead ends place_ends)
         (λ _. joined_reader 0 depth DefinitionAt MoreAt between last (definition expression) more more_follows
         definition_reader more_reader)
 
-    fixed_reader : IsPartReader 0 (FixedAt DefinitionsAt) last depth (fixed (definitions expression))
-    fixed_reader = record {
+    of_constants_reader : IsPartReader 0 (OfConstantsAt DefinitionsAt) last depth
+        (of_constants (definitions expression))
+    of_constants_reader = record {
       answers =
-          λ some. fixed_answers Deeper DefinitionsAt last depth
+          λ some. of_constants_answers Deeper DefinitionsAt last depth
           (λ a. both (ends terminal.End) true (known.stops terminal.End refl) refl)
           (λ m. (definitions_good m.expressions).fronts) (definitions expression) (definitions_reader.answers some);
       least =
           λ m some. let g = (definitions_good m.expressions).least false in
-          (g.0, g.1, record { fixed = g.3; spelled = g.2 });
+          (g.0, g.1, record { of_constants = g.3; spelled = g.2 });
     }
 
     constants_reader : IsPartReader 0 ConstantsAt Anything depth (constants_rule expression)
     unfolding constants_rule
     constants_reader =
-        before_mark 0 depth (FixedAt DefinitionsAt) last terminal.Semicolon kind.Semicolon refl
+        before_mark 0 depth (OfConstantsAt DefinitionsAt) last terminal.Semicolon kind.Semicolon refl
         (λ a. both (ends terminal.Semicolon) true (known.stops terminal.Semicolon refl) refl)
-        (λ all _. GivesAt (whole (tree.Constants all))) Anything (fixed (definitions expression))
-        (λ all _. gives (whole (tree.Constants all))) fixed_reader
+        (λ all _. GivesAt (whole (tree.Constants all))) Anything (of_constants (definitions expression))
+        (λ all _. gives (whole (tree.Constants all))) of_constants_reader
         (λ all _. gives_reader 0 depth (whole (tree.Constants all)) Anything)
 
     pub constants_answers : (ts : List Token)

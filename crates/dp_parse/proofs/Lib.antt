@@ -6,9 +6,9 @@ pub mod StatementParts
 pub mod StatementStarts
 pub mod StatementBodies
 pub mod StatementLevels
-pub mod FixedTexts
-pub mod FixedRules
-pub mod FixedAnswers
+pub mod ConstantTexts
+pub mod ConstantRules
+pub mod ConstantFronts
 pub mod ConstantAnswers
 pub mod FileReaders
 pub mod FileVerdicts

@@ -289,37 +289,38 @@ with_statement parts b =
 abbrev pub with_function : Parts → Function → Parts
 with_function parts f = record { body = parts.body; functions = parts.functions ++ f ∷ [] }
 
--- a token of a variable, of `++` or `--`, which want one, of an `isset` or an include; and `;`,
--- which stands in no expression
-abbrev pub is_loose : Terminal → Bool
-is_loose terminal.Variable = true
-is_loose terminal.Superglobal = true
-is_loose terminal.Isset = true
-is_loose terminal.Include = true
-is_loose terminal.Require = true
-is_loose terminal.Increment = true
-is_loose terminal.Decrement = true
-is_loose terminal.Semicolon = true
-is_loose _ = false
+-- a token that stands in no constant's value: of a variable, of `++` or `--`, which want one, of an
+-- `isset` or an include; nor does `;`
+abbrev pub never_constant : Terminal → Bool
+never_constant terminal.Variable = true
+never_constant terminal.Superglobal = true
+never_constant terminal.Isset = true
+never_constant terminal.Include = true
+never_constant terminal.Require = true
+never_constant terminal.Increment = true
+never_constant terminal.Decrement = true
+never_constant terminal.Semicolon = true
+never_constant _ = false
 
 -- such a token, or, behind a name, the parenthesis of a call
-abbrev pub breaks : Bool → Terminal → Bool
-breaks named s = is_loose s || (is terminal.OpenParenthesis s && named)
+abbrev pub ends_constant : Bool → Terminal → Bool
+ends_constant named s = never_constant s || (is terminal.OpenParenthesis s && named)
 
 -- No variable, `isset`, include, call or `;` stands among these tokens, which stand behind a name
 -- or not.
-abbrev pub is_fixed : Bool → List Token → Bool
-is_fixed named [] = true
-is_fixed named (t ∷ ts) =
-    not (breaks named (terminal_of t.kind)) && is_fixed (is terminal.Name (terminal_of t.kind)) ts
+abbrev pub is_of_constants : Bool → List Token → Bool
+is_of_constants named [] = true
+is_of_constants named (t ∷ ts) =
+    not (ends_constant named (terminal_of t.kind))
+    && is_of_constants (is terminal.Name (terminal_of t.kind)) ts
 
 -- the rule, where its tokens are such
-pub record Fixed {A : Type 0} (rule : Rule A) (text : List Token) (a : A) : Type 0 where
-  pub fixed : is_fixed false text ≡ true
+pub record OfConstants {A : Type 0} (rule : Rule A) (text : List Token) (a : A) : Type 0 where
+  pub of_constants : is_of_constants false text ≡ true
   pub spelled : rule text a
 
-abbrev pub defined_as : Text → Expression → Definition
-defined_as name value = record { name = name; value = value }
+abbrev pub definition_of : Text → Expression → Definition
+definition_of name value = record { name = name; value = value }
 
 -- name "=" expr
 abbrev pub DefinitionRule : Rule Expression → Rule Definition
@@ -327,7 +328,7 @@ DefinitionRule expression = do
   name ← Kind name_in
   Mark terminal.Assign
   value ← expression
-  Gives (defined_as name value)
+  Gives (definition_of name value)
 
 -- "," name "=" expr
 abbrev pub NextDefinition : Rule Expression → Rule Definition
@@ -346,7 +347,7 @@ Definitions expression = do
 -- expression no `;`.
 abbrev pub ConstantsRule : Rule Expression → Rule Ended
 ConstantsRule expression = do
-  all ← Fixed (Definitions expression)
+  all ← OfConstants (Definitions expression)
   Mark terminal.Semicolon
   Gives (whole (tree.Constants all))
 

@@ -16,8 +16,8 @@ use dp_value::{Items, Memory};
 use std::alloc::Global;
 
 /// Whether no constant's expression goes on with a token of this sort, behind a name or not.
-fn breaks(is_named: bool, terminal: Terminal) -> bool
-    ensures { result ≡ grammar.breaks is_named terminal }
+fn ends_constant(is_named: bool, terminal: Terminal) -> bool
+    ensures { result ≡ grammar.ends_constant is_named terminal }
 {
     match terminal {
         Terminal::Variable
@@ -34,15 +34,15 @@ fn breaks(is_named: bool, terminal: Terminal) -> bool
 }
 
 /// How many of these tokens stand before the first with which a constant's expression does not go on.
-#[tactic(auto, using(std::proofs::lemmas::List::take_all, crate::proofs::FixedAnswers::none_fixed, crate::proofs::FixedAnswers::one_fixed, crate::proofs::FixedAnswers::no_tokens, crate::proofs::FixedAnswers::one_less))]
-fn fixed_len(tokens: &Tokens<'_>) -> usize
-    ensures { result ≡ spec.fixed_len false tokens.now }
+#[tactic(auto, using(std::proofs::lemmas::List::take_all, crate::proofs::ConstantFronts::none_of_constants, crate::proofs::ConstantFronts::one_of_constants, crate::proofs::ConstantFronts::no_tokens, crate::proofs::ConstantFronts::one_less))]
+fn constants_len(tokens: &Tokens<'_>) -> usize
+    ensures { result ≡ spec.constants_len false tokens.now }
 {
     let left = tokens.left();
     let mut rest = tokens.front(left);
     let mut is_named = false;
     for at in 0..left {
-        if breaks(is_named, rest.peek()) {
+        if ends_constant(is_named, rest.peek()) {
             return at;
         }
         is_named = rest.sees(Terminal::Name);
@@ -116,11 +116,14 @@ fn among_all(all: usize, first: usize, refusal: Refusal) -> Refusal
 }
 
 /// The definitions of a `const`, read of the tokens that may stand in it.
-#[tactic(auto, unfolding(crate::specs::inner::StatementRules::fixed))]
-fn fixed_definitions(alloc: Global, tokens: &mut Tokens<'_>) -> Result<Items<Definition>, Refusal>
-    ensures { Reads (spec.fixed (spec.definitions limited.expression) tokens.old) result tokens.new }
+#[tactic(auto, unfolding(crate::specs::inner::StatementRules::of_constants))]
+fn constant_definitions(
+    alloc: Global,
+    tokens: &mut Tokens<'_>,
+) -> Result<Items<Definition>, Refusal>
+    ensures { Reads (spec.of_constants (spec.definitions limited.expression) tokens.old) result tokens.new }
 {
-    let first = fixed_len(tokens);
+    let first = constants_len(tokens);
     let mut front = tokens.front(first);
     match definitions(alloc, &mut front) {
         Ok(all) => {
@@ -136,7 +139,7 @@ fn fixed_definitions(alloc: Global, tokens: &mut Tokens<'_>) -> Result<Items<Def
 fn constants_rule(alloc: Global, tokens: &mut Tokens<'_>) -> Result<Ended, Refusal>
     ensures { Reads (spec.constants_rule limited.expression tokens.old) result tokens.new }
 {
-    let all = fixed_definitions(alloc, tokens)?;
+    let all = constant_definitions(alloc, tokens)?;
     let (all, _) = both(all, tokens.mark(Terminal::Semicolon))?;
     whole(alloc, tokens, StatementKind::Constants(all))
 }

@@ -1,7 +1,8 @@
 -- Constants: those that are there from the start, and those that a program defines, each once.
 -- Their names have case. Source: the PHP manual, "Constants".
-use Rattle.std.specs.Prelude.{pos, negsuc, ℕ, ◌-◌, ◌^◌, if◌then◌else◌, List, [], ◌∷◌, codes, Option, Some, None, is_some}
+use Rattle.std.specs.Prelude.{pos, negsuc, ℕ, ◌-◌, ◌^◌, if◌then◌else◌, List, [], ◌∷◌, codes, Option, is_some}
 use Rattle.std.specs.Map.{lookup}
+use Rattle.std.specs.Option.{option_or}
 use Rattle.std.specs.Str.{bytes_eq}
 use Rattle.dp_value.specs.declared.value.Value.{Value}
 use Rattle.dp_value.specs.declared.value.Value.TheVariants.{Int, Text}
@@ -15,13 +16,10 @@ standing =
     (codes "PHP_EOL", Text (10 ∷ [])) ∷ (codes "PHP_INT_MAX", Int (pos (2 ^ 63 - 1)))
     ∷ (codes "PHP_INT_MIN", Int (negsuc (2 ^ 63 - 1))) ∷ []
 
-abbrev pub or_else : Option Value → Option Value → Option Value
-or_else (Some v) other = Some v
-or_else None other = other
-
 -- the value of a constant
 abbrev pub constant : List ℕ → State → Option Value
-constant name s = or_else (lookup (bytes_eq name) standing) (value_held (slot_of s.constants name))
+constant name s =
+    option_or (lookup (bytes_eq name) standing) (value_held (slot_of s.constants name))
 
 -- with a constant of this name; where there is one, it keeps its value
 abbrev pub with_constant : List ℕ → Value → State → State

@@ -3,3 +3,4 @@
 pub mod Parts
 pub mod Declarations
 pub mod Owners
+pub mod Standing

@@ -1,39 +1,48 @@
 //! Constants: those that are there from the start, and those that a program defines.
 
-ghost use Rattle.std.specs.Prelude.{◌≡◌, is_some, not, option_map, IfOk, OnErr, OnOk};
+ghost use Rattle.std.specs.Prelude.{◌≡◌, is_some, not, option_map, IfOk, IsNone, IsSome, OnErr, OnOk};
 ghost use Rattle.std.specs.Map.{lookup};
 ghost use Rattle.std.specs.Str.{bytes_eq};
 ghost use Rattle.dp_state.specs.Constants as spec;
 ghost use Rattle.dp_state.specs.Variables.{slot_of, value_held};
+ghost use Rattle.dp_state.specs.inner.Standing.{value_of};
 
 use crate::state::State;
 use crate::vars::{Slot, Vars};
 use dp_value::{Bytes, Memory, Text, Value};
 use std::alloc::Global;
 
-/// Whether a constant of this name is there from the start.
-fn is_standing(name: &[u8]) -> bool
-    ensures { result ≡ is_some (lookup (bytes_eq name.now) spec.standing) }
+/// The value of a constant that is there from the start, which takes no memory yet: a text of one byte, or an integer.
+#[derive(Clone, Copy, Debug)]
+pub(crate) enum Standing {
+    Byte(u8),
+    Int(i64),
+}
+
+/// What a constant of this name is from the start.
+fn standing_named(name: &[u8]) -> Option<Standing>
+    ensures { option_map value_of result ≡ lookup (bytes_eq name.now) spec.standing }
 {
-    name == b"PHP_EOL".as_slice()
-        || name == b"PHP_INT_MAX".as_slice()
-        || name == b"PHP_INT_MIN".as_slice()
+    if name == b"PHP_EOL".as_slice() {
+        return Some(Standing::Byte(b'\n'));
+    }
+    if name == b"PHP_INT_MAX".as_slice() {
+        return Some(Standing::Int(i64::MAX));
+    }
+    if name == b"PHP_INT_MIN".as_slice() {
+        return Some(Standing::Int(i64::MIN));
+    }
+    None
 }
 
 /// The value of a constant that is there from the start.
-fn standing(alloc: Global, name: &[u8]) -> Result<Option<Value>, Memory>
-    ensures { IfOk result (λ value. value ≡ lookup (bytes_eq name.now) spec.standing) }
+fn standing_value(alloc: Global, standing: Standing) -> Result<Value, Memory>
+    ensures { IfOk result (λ value. value ≡ value_of standing) }
 {
-    if name == b"PHP_EOL".as_slice() {
-        return Ok(Some(Value::Text(Text::from_slice(alloc, b"\n")?)));
+    match standing {
+        Standing::Byte(byte) => Ok(Value::Text(Text::from_slice(alloc, &[byte])?)),
+        Standing::Int(number) => Ok(Value::Int(number)),
     }
-    if name == b"PHP_INT_MAX".as_slice() {
-        return Ok(Some(Value::Int(i64::MAX)));
-    }
-    if name == b"PHP_INT_MIN".as_slice() {
-        return Ok(Some(Value::Int(i64::MIN)));
-    }
-    Ok(None)
 }
 
 /// The value of a constant that the program has defined.
@@ -47,9 +56,10 @@ fn held<'a>(constants: &'a Vars, name: &Bytes) -> Option<&'a Value>
     }
 }
 
-/// A value of two owners, if there is one.
+/// A value of two owners, if there is one. Where there is none, it takes no memory.
 fn copied(found: Option<&Value>) -> Result<Option<Value>, Memory>
-    ensures { IfOk result (λ copy. copy ≡ option_map (λ value. value.now) found.entry) }
+    ensures ok { IfOk result (λ copy. copy ≡ option_map (λ value. value.now) found.entry) }
+    ensures sure { OnErr result (IsSome found.entry) }
 {
     match found {
         None => Ok(None),
@@ -58,12 +68,13 @@ fn copied(found: Option<&Value>) -> Result<Option<Value>, Memory>
 }
 
 impl State {
-    /// The value of a constant, found by its name in its case of letters.
+    /// The value of a constant, found by its name in its case of letters. That there is none takes no memory to say.
     pub fn constant(&self, name: &Bytes) -> Result<Option<Value>, Memory>
-        ensures { IfOk result (λ value. value ≡ spec.constant name.now self.now) }
+        ensures ok { IfOk result (λ value. value ≡ spec.constant name.now self.now) }
+        ensures sure { OnErr result (IsSome (spec.constant name.now self.now)) }
     {
-        match standing(self.allocator(), name.as_slice())? {
-            Some(value) => Ok(Some(value)),
+        match standing_named(name.as_slice()) {
+            Some(standing) => Ok(Some(standing_value(self.allocator(), standing)?)),
             None => copied(held(&self.constants, name)),
         }
     }
@@ -74,15 +85,16 @@ impl State {
     {
         match held(&self.constants, name) {
             Some(_) => true,
-            None => is_standing(name.as_slice()),
+            None => standing_named(name.as_slice()).is_some(),
         }
     }
 
-    /// Defines a constant, and says whether it did: where there is one of this name, that keeps its value. After out of
-    /// memory the state is as before.
+    /// Defines a constant, and says whether it did: where there is one of this name, that keeps its value, and no
+    /// memory is taken. After out of memory the state is as before.
     pub fn define(&mut self, name: &Bytes, value: Value) -> Result<bool, Memory>
         ensures new { IfOk result (λ new. new ≡ not (is_some (spec.constant name.now self.old))) }
         ensures ok { OnOk result (self.new ≡ spec.with_constant name.now value self.old) }
+        ensures sure { OnErr result (IsNone (spec.constant name.now self.old)) }
         ensures err { OnErr result (self.new ≡ self.old) }
     {
         if self.has_constant(name) {

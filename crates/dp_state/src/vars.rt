@@ -1,7 +1,12 @@
 //! The variables of a frame, and the constants of a program.
+//!
+//! A variable that is taken away from the front stays as it is kept, without a value, until as many are taken as are
+//! left. Then they are cleared at once. So all variables are taken away one after another in a time by their number.
 
-ghost use Rattle.std.specs.Prelude.{◌≡◌, position, Some, IfSome};
+ghost use Rattle.std.specs.Prelude.{◌≡◌, ◌+◌, ◌<◌, ◌≤◌, drop, length, position, remove, take, Some, IfSome};
+ghost use Rattle.std.specs.Map.{keys_of};
 ghost use Rattle.std.specs.Str.{bytes_eq};
+ghost use Rattle.dp_value.specs.Place.{IsAbsent};
 
 use dp_value::{Bytes, Memory, Value};
 use indexmap::IndexMap;
@@ -19,15 +24,16 @@ pub enum Slot {
     Bound,
 }
 
-/// Variables in the order of their first assignment, or constants in that of their definition. Contracts see the list
-/// of names and slots.
+/// Variables in the order of their first assignment, or constants in that of their definition, so many of which at the
+/// front are taken away already. Contracts see the list of names and slots of those that are left.
 #[derive(Debug, Drop)]
 pub struct Vars {
     pub(crate) slots: IndexMap<Bytes, Slot>,
+    gone: usize,
 }
 
 impl Model for Vars {
-    ghost use Rattle.std.specs.Prelude.{List, ℕ};
+    ghost use Rattle.std.specs.Prelude.{List, ℕ, ◌≤◌, drop, length};
     ghost use Rattle.std.specs.Coded.{coded×, coded_list, coded_ℕ};
     ghost use Rattle.dp_state.specs.declared.vars.Slot.{Slot as VariableSlot};
     ghost use Rattle.dp_state.specs.contracts.vars.Slot as slot;
@@ -36,7 +42,9 @@ impl Model for Vars {
 
     ghost coded = { coded_list (coded× (coded_list coded_ℕ) slot.the_row.coded) };
 
-    ghost view = { λ v. v.slots.entries };
+    ghost view = { λ v. drop v.gone v.slots.entries };
+
+    ghost invariant = { λ v. v.gone ≤ length v.slots.entries };
 }
 
 impl Slot {
@@ -85,6 +93,7 @@ impl Vars {
     {
         Vars {
             slots: IndexMap::new(alloc),
+            gone: 0,
         }
     }
 
@@ -93,14 +102,18 @@ impl Vars {
         ensures len { result ≡ length self.now }
         ensures distinct { IsDistinct bytes_eq (keys_of self.now) }
     {
-        self.slots.len()
+        self.slots.len() - self.gone
     }
 
     /// The variable at a position, counted from 0 in their order. Takes no memory.
     pub fn pair(&self, at: usize) -> Option<(&Bytes, &Slot)>
         ensures { option_map (λ p. (p.0.now, p.1.now)) result ≡ slice_get self.now at }
     {
-        self.slots.get_index(at)
+        let rows = self.slots.len();
+        if at >= rows - self.gone {
+            return None;
+        }
+        self.slots.get_index(self.gone + at)
     }
 
     /// What a name has. Takes no memory.
@@ -117,17 +130,30 @@ impl Vars {
     fn place(&self, name: &Bytes) -> Option<usize>
         ensures { result ≡ position (bytes_eq name.now) (keys_of self.now) }
     {
-        match near(self.slots.keys().as_slice(), name) {
+        match near(&self.slots.keys().as_slice()[self.gone..], name) {
             Some(at) => Some(at),
-            None => self.slots.get_index_of(name),
+            None => self.place_by_hash(name),
         }
+    }
+
+    /// The position of a name, found by its hash.
+    fn place_by_hash(&self, name: &Bytes) -> Option<usize>
+        ensures { result ≡ position (bytes_eq name.now) (keys_of self.now) }
+    {
+        let Some(row) = self.slots.get_index_of(name) else {
+            return None;
+        };
+        if row < self.gone {
+            return None;
+        }
+        Some(row - self.gone)
     }
 
     /// What the name at a position has.
     fn slot_at(&self, at: usize) -> Option<&Slot>
         ensures { option_map (λ slot. slot.now) result ≡ slice_get (values_of self.now) at }
     {
-        match self.slots.get_index(at) {
+        match self.pair(at) {
             Some((_, slot)) => Some(slot),
             None => None,
         }
@@ -138,6 +164,7 @@ impl Vars {
         ensures ok { OnOk result (self.new ≡ with_slot self.old name slot) }
         ensures err { OnErr result (self.new ≡ self.old) }
     {
+        forget(&mut self.slots, &mut self.gone, &name);
         self.slots.insert(name, slot)?;
         Ok(())
     }
@@ -152,7 +179,9 @@ impl Vars {
         let Some(at) = self.place(name) else {
             return None;
         };
-        let Some(slot) = self.slots.get_index_mut(at) else {
+        // The number of rows is what says that a row fits.
+        let _rows = self.slots.len();
+        let Some(slot) = self.slots.get_index_mut(self.gone + at) else {
             return None;
         };
         slot.exchange(value)
@@ -168,7 +197,9 @@ impl Vars {
         let Some(at) = self.place(name) else {
             return Some(value);
         };
-        let Some(slot) = self.slots.get_index_mut(at) else {
+        // The number of rows is what says that a row fits.
+        let _rows = self.slots.len();
+        let Some(slot) = self.slots.get_index_mut(self.gone + at) else {
             return Some(value);
         };
         slot.put(value)
@@ -178,13 +209,84 @@ impl Vars {
     pub fn remove(&mut self, name: &Bytes)
         ensures { self.new ≡ without self.old name.now }
     {
-        let _ = self.slots.shift_remove(name);
+        let Some(at) = self.place(name) else {
+            return;
+        };
+        take_out(&mut self.slots, &mut self.gone, at);
     }
 
     /// What the variables take their memory from.
     pub(crate) fn allocator(&self) -> Global {
         *self.slots.allocator()
     }
+}
+
+/// Clears the rows that are taken away already where this name is in one of them.
+fn forget(slots: &mut IndexMap<Bytes, Slot>, gone: &mut usize, name: &Bytes)
+    requires { gone.old ≤ length slots.old.entries }
+    ensures left { drop gone.new slots.new.entries ≡ drop gone.old slots.old.entries }
+    ensures within { gone.new ≤ length slots.new.entries }
+    ensures fresh { IsAbsent (bytes_eq name.now) (keys_of (take gone.new slots.new.entries)) }
+{
+    if *gone == 0 {
+        return;
+    }
+    let Some(row) = slots.get_index_of(name) else {
+        return;
+    };
+    if row < *gone {
+        clear(slots, gone);
+    }
+}
+
+/// Takes a row out of those that are left: the first by a mark, any other by closing up.
+fn take_out(slots: &mut IndexMap<Bytes, Slot>, gone: &mut usize, at: usize)
+    requires { gone.old + at < length slots.old.entries }
+    ensures left { drop gone.new slots.new.entries ≡ remove (drop gone.old slots.old.entries) at }
+    ensures within { gone.new ≤ length slots.new.entries }
+{
+    clear_many(slots, gone);
+    take_row(slots, gone, at);
+}
+
+/// The same where fewer rows are taken away than are left.
+fn take_row(slots: &mut IndexMap<Bytes, Slot>, gone: &mut usize, at: usize)
+    requires { gone.old + at < length slots.old.entries }
+    ensures left { drop gone.new slots.new.entries ≡ remove (drop gone.old slots.old.entries) at }
+    ensures within { gone.new ≤ length slots.new.entries }
+{
+    // The number of rows is what says that a row fits.
+    let _rows = slots.len();
+    if at > 0 {
+        let _ = slots.shift_remove_index(*gone + at);
+        return;
+    }
+    let Some(slot) = slots.get_index_mut(*gone) else {
+        return;
+    };
+    *slot = Slot::Bound;
+    *gone += 1;
+}
+
+/// Clears the rows that are taken away already where they are as many as those that are left.
+fn clear_many(slots: &mut IndexMap<Bytes, Slot>, gone: &mut usize)
+    requires { gone.old ≤ length slots.old.entries }
+    ensures left { drop gone.new slots.new.entries ≡ drop gone.old slots.old.entries }
+    ensures within { gone.new ≤ length slots.new.entries }
+{
+    if *gone >= slots.len() - *gone {
+        clear(slots, gone);
+    }
+}
+
+/// Clears the rows that are taken away already.
+fn clear(slots: &mut IndexMap<Bytes, Slot>, gone: &mut usize)
+    requires { gone.old ≤ length slots.old.entries }
+    ensures left { slots.new.entries ≡ drop gone.old slots.old.entries }
+    ensures none { gone.new ≡ 0 }
+{
+    drop(slots.drain(..*gone));
+    *gone = 0;
 }
 
 /// The position of a name, if it is one of the first few.

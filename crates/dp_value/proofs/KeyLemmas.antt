@@ -6,7 +6,7 @@ use Rattle.std.proofs.lemmas.Slice.Eq.{slice_eq-Decides}
 use Rattle.std.specs.Bool.{Decides}
 use Rattle.std.specs.Cmp.{IsEquivalence}
 use Rattle.std.specs.List.{list_any, IsDistinct}
-use Rattle.std.proofs.Common.{ℕ, zero, suc, ◌<◌, length, get_or, take, drop, subst, arith}
+use Rattle.std.proofs.Common.{ℕ, zero, suc, ◌<◌, length, get_or, take, subst, arith}
 use Rattle.std.proofs.lemmas.List.Elements.{All-from_recursion}
 use Rattle.std.proofs.lemmas.Map.Keys.{IsDistinct-head, IsDistinct-tail}
 use Rattle.indexmap.specs.IndexSet.{insert_key}
@@ -74,8 +74,3 @@ fresh (x ∷ ks) (suc i) k is within at =
     All-from_recursion (λ y. key_eq x y ≡ false) ks (IsDistinct-head key_eq x ks is) i k (omega arith) in
     let other : key_eq k x ≡ false = key_eq_equivalence.symm k x ∙ ap (key_eq x) at ∙ apart in
     rw other (fresh ks i k (IsDistinct-tail key_eq x ks is) (omega arith) at)
-
-pub distinct-drop : (n : ℕ) (ks : List Key) → IsDistinct key_eq ks → IsDistinct key_eq (drop n ks)
-distinct-drop zero ks is = is
-distinct-drop (suc n) [] is = is
-distinct-drop (suc n) (k ∷ ks) is = distinct-drop n ks (IsDistinct-tail key_eq k ks is)

@@ -1,6 +1,7 @@
 pub mod KeyLemmas
 pub mod PairLemmas
 pub mod ArrayLemmas
+pub mod LeftLemmas
 pub mod RowLemmas
 pub mod RisingLemmas
 pub mod TableLemmas

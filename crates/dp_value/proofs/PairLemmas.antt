@@ -1,7 +1,7 @@
 -- Columns of keys and values, as pairs.
 use Rattle.std.proofs.Common.{◌≡◌, ℕ, zero, suc, ◌<◌, Bool, true, false, List, [], ◌∷◌, length, map, slice_get, Some, None, MatchOption, nat_lt, refl, ap, ◌∙◌, inl, inr, ◌⊎◌, arith}
 use Rattle.std.proofs.lemmas.Bool.Decides.{nat_tests}
-use Rattle.std.proofs.Common.{◌+◌, ◌≤◌, ◌++◌, set, remove}
+use Rattle.std.proofs.Common.{◌+◌, ◌≤◌, ◌++◌, set, remove, take}
 use Rattle.std.proofs.lemmas.Option.{same_Some}
 use Rattle.std.specs.List.{zip, position, position_or_len, list_any}
 use Rattle.dp_value.specs.declared.key.Key.{Key}
@@ -19,6 +19,18 @@ pair_some (p ∷ ps) zero k d h g =
     let value : p.1 ≡ d = same_Some p.1 d g in
     λ i. Some (key i, value i)
 pair_some (p ∷ ps) (suc i) k d h g = pair_some ps i k d h g
+
+-- a position that was read, up to the end
+pub read-past : {X : Type 0} (xs : List X) (i : ℕ) → None ≡ slice_get xs i → length xs ≤ i
+read-past [] i h = omega arith
+read-past (x ∷ xs) zero h = absurd (cc)
+read-past (x ∷ xs) (suc i) h = omega (arith, read-past xs i h)
+
+pub map-read : {X Y : Type 0} (f : X → Y) (xs : List X) (i : ℕ) (x : X) → Some x ≡ slice_get xs i
+    → map f (take i xs) ++ f x ∷ [] ≡ map f (take (suc i) xs)
+map-read f [] i x h = cc
+map-read f (y ∷ xs) zero x h = let same : x ≡ y = same_Some x y h in ap (λ z. f z ∷ []) same
+map-read f (y ∷ xs) (suc i) x h = ap (λ zs. f y ∷ zs) (map-read f xs i x h)
 
 -- the first place of an element that passes is within the list, or no element passes
 abbrev Places : {X : Type 0} → (X → Bool) → List X → Type 0

@@ -39,11 +39,6 @@ rise-above p m (Int x ∷ ks) (suc i) k rise within at is =
 rise-above p m (Text bytes ∷ ks) i k rise within at is = absurd rise
 
 -- ---- what is taken away, and what is put behind
-pub rising-drop : (g : ℕ) (ks : List Key) → IsRising ks → IsRising (drop g ks)
-rising-drop zero ks rise = rise
-rising-drop (suc g) [] rise = tt
-rising-drop (suc g) (k ∷ ks) rise = rising-drop g ks (rising-tail k ks rise)
-
 rise-remove : (m : ℤ) (ks : List Key) (i : ℕ) → RiseFrom m ks → RiseFrom m (remove ks i)
 rise-remove m [] zero rise = tt
 rise-remove m [] (suc i) rise = tt

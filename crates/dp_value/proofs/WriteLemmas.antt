@@ -254,7 +254,8 @@ pub cause-behind : (beside inner : ℕ) (keys : List (Option Key)) (key : Key) (
     → cause_of (within inner (written rest push new child)) ≡ cause_of (within beside (written_in keys push new t))
 cause-behind beside inner keys key rest push new t child is =
     let set : Data → Data = λ d. data_of_table (table_set t key d) in
-    let asked : within beside (written_in keys push new t) ≡ then_data (within inner (written rest push new child)) set =
+    let asked : within beside (written_in keys push new t)
+    ≡ then_data (within inner (written rest push new child)) set =
     ap (λ (ks : List (Option Key)). within beside (written_in ks push new t)) is.first
     ∙ within_set beside t key (written rest push new (entry_at t key))
     ∙ ap (λ (r : Result Data WriteError). then_data r set)

@@ -3,9 +3,10 @@ pub mod Texts
 pub mod Codes
 pub mod Sizes
 pub mod Behind
-pub mod Rows
+pub mod Left
 pub mod Rising
 pub mod Kept
+pub mod Rows
 pub mod Inside
 pub mod Falls
 pub mod Writes

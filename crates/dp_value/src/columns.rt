@@ -1,19 +1,18 @@
 //! The keys and values of an array, side by side.
 
-ghost use Rattle.std.specs.Prelude.{◌≡◌, ◌==◌, ◌+◌, ◌<◌, ◌≤◌, ◌↔◌, ◌⊎◌, [], min, length, map, slice_get};
+ghost use Rattle.std.specs.Prelude.{◌≡◌, ◌==◌, ◌+◌, ◌<◌, ◌≤◌, ◌↔◌, ◌⊎◌, [], min, length, slice_get};
 ghost use Rattle.std.specs.Prelude.{is_some, option_map, IfOk, OnOk, OnErr, IfErr, IsErrOf};
 ghost use Rattle.dp_value.specs.Data.{null, pairs_weight};
-ghost use Rattle.dp_value.specs.Table.{empty, keys_of, values_of, value_at, put, table_set, table_remove};
+ghost use Rattle.dp_value.specs.Table.{empty, value_at, put, table_set, table_remove};
 ghost use Rattle.dp_value.specs.Table.{table_exchange, swapped, weight_limit, IsTable, raised as raised_by};
 ghost use Rattle.dp_value.specs.Value.{data_of};
 ghost use Rattle.dp_value.specs.inner.Writes.{IsTooMuch};
 
-use crate::key_column::KeyColumn;
-use crate::rows::{forget, place, store, take_out};
+use crate::kept::Kept;
+use crate::rows::{nth_value, replace_nth, store, take_out};
 use crate::value::Columns;
 use crate::{Key, Memory, Value, ValueError, WEIGHT_LIMIT, weight};
 use std::alloc::Global;
-use std::mem;
 use std::rc::Rc;
 
 impl Columns {
@@ -22,8 +21,9 @@ impl Columns {
         ensures { result ≡ empty }
     {
         Columns {
-            keys: KeyColumn::new(alloc),
+            kept: Kept::Rising(Vec::new(alloc)),
             values: Vec::new(alloc),
+            start: 0,
             gone: 0,
             largest: None,
             weight: 0,
@@ -31,12 +31,11 @@ impl Columns {
     }
 
     /// The number of entries. Takes no memory.
-    #[tactic(auto, using(crate::proofs::RowLemmas::nulls_within))]
     pub(crate) fn len(&self) -> usize
         ensures len { result ≡ length self.now.pairs }
         ensures table { IsTable self.now }
     {
-        self.values.len() - self.gone
+        self.kept.len() - self.gone
     }
 
     /// Whether there is no entry. Takes no memory.
@@ -46,37 +45,23 @@ impl Columns {
         self.len() == 0
     }
 
-    /// The keys in the array's order. Takes no memory.
-    #[tactic(auto, using(crate::proofs::RowLemmas::nulls_within))]
-    pub(crate) fn keys(&self) -> &[Key]
-        ensures { result.now ≡ keys_of self.now.pairs }
-    {
-        &self.keys.as_slice()[self.gone..]
-    }
-
-    /// The values in the array's order. Takes no memory.
-    #[tactic(auto, using(crate::proofs::RowLemmas::nulls_within))]
-    pub(crate) fn values(&self) -> &[Value]
-        ensures { map data_of result.now ≡ values_of self.now.pairs }
-    {
-        &self.values.as_slice()[self.gone..]
-    }
-
     /// The entry at a position, counted from 0 in the array's order. Takes no memory.
     pub(crate) fn pair(&self, at: usize) -> Option<(&Key, &Value)>
         ensures { option_map (λ p. (p.0.now, data_of p.1.now)) result ≡ slice_get self.now.pairs at }
     {
-        let key = self.keys().get(at)?;
-        let value = self.values().get(at)?;
-        Some((key, value))
+        if at >= self.len() {
+            return None;
+        }
+        let key = self.kept.at(self.start, self.gone, at);
+        Some((key, nth_value(&self.values, self.start, self.gone, at)))
     }
 
     /// The value under a key. Takes no memory.
     pub(crate) fn get(&self, key: &Key) -> Option<&Value>
         ensures { option_map (λ v. data_of v.now) result ≡ value_at self.now key.now }
     {
-        let at = place(&self.keys, self.gone, key)?;
-        Some(&self.values[self.gone + at])
+        let at = self.kept.place(self.start, self.gone, key)?;
+        Some(nth_value(&self.values, self.start, self.gone, at))
     }
 
     /// The largest integer key ever used, if any.
@@ -98,9 +83,9 @@ impl Columns {
         ensures value { option_map (λ v. data_of v.now) result.0 ≡ value_at self.now key.now }
         ensures beside { result.1 ≡ min (pairs_weight (put self.now.pairs key.now null)) u64.MAX }
     {
-        match place(&self.keys, self.gone, key) {
+        match self.kept.place(self.start, self.gone, key) {
             Some(at) => {
-                let value = &self.values[self.gone + at];
+                let value = nth_value(&self.values, self.start, self.gone, at);
                 let of_value = weight(value);
                 (Some(value), self.weight - of_value)
             }
@@ -146,8 +131,14 @@ impl Columns {
         ensures err { OnErr result (self.new ≡ self.old) }
     {
         let largest = raised(self.largest, &key);
-        forget(&mut self.keys, &mut self.values, &mut self.gone, &key);
-        store(&mut self.keys, &mut self.values, self.gone, key, value)?;
+        store(
+            &mut self.kept,
+            &mut self.values,
+            &mut self.start,
+            &mut self.gone,
+            key,
+            value,
+        )?;
         self.largest = largest;
         self.weight = weight;
         Ok(())
@@ -162,9 +153,9 @@ impl Columns {
         ensures exchanged { self.new ≡ table_exchange self.old key.now (data_of value) }
         ensures table { IsTable self.old }
     {
-        let at = place(&self.keys, self.gone, key)?;
+        let at = self.kept.place(self.start, self.gone, key)?;
         let added = weight(&value);
-        let old = mem::replace(&mut self.values[self.gone + at], value);
+        let old = replace_nth(&mut self.values, self.start, self.gone, at, value);
         self.weight = self.weight - weight(&old) + added;
         Some(old)
     }
@@ -175,10 +166,16 @@ impl Columns {
         ensures found { result ≡ is_some (value_at self.old key.now) }
         ensures removed { self.new ≡ table_remove self.old key.now }
     {
-        let Some(at) = place(&self.keys, self.gone, key) else {
+        let Some(at) = self.kept.place(self.start, self.gone, key) else {
             return false;
         };
-        let weight = take_out(&mut self.keys, &mut self.values, &mut self.gone, at);
+        let weight = take_out(
+            &mut self.kept,
+            &mut self.values,
+            &mut self.start,
+            &mut self.gone,
+            at,
+        );
         self.weight -= weight;
         true
     }

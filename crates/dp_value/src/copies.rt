@@ -38,22 +38,22 @@ impl PhpArray {
 }
 
 impl Columns {
-    /// Equal columns, of what is left alone. What the values hold is shared.
-    #[tactic(auto, using(crate::proofs::RowLemmas::nulls_within))]
+    /// Equal columns. What the values hold is shared.
     pub(crate) fn try_clone(&self) -> Result<Columns, Memory>
         ensures { IfOk result (λ copy. copy ≡ self.now) }
     {
         let alloc = *self.values.allocator();
-        let keys = self.keys.copy_from(self.gone)?;
-        let left = &self.values.as_slice()[self.gone..];
-        let mut values = Vec::with_capacity(alloc, left.len())?;
-        for value in left {
+        let rows = self.values.as_slice();
+        let mut values = Vec::with_capacity(alloc, rows.len())?;
+        for value in rows {
             values.push(value.try_clone()?)?;
         }
+        let kept = self.kept.try_clone()?;
         Ok(Columns {
-            keys,
+            kept,
             values,
-            gone: 0,
+            start: self.start,
+            gone: self.gone,
             largest: self.largest,
             weight: self.weight,
         })

@@ -5,6 +5,7 @@ ghost use Rattle.dp_value.specs.Comparison.{identical, identical_entries};
 ghost use Rattle.dp_value.specs.Data.{entries_of};
 ghost use Rattle.dp_value.specs.Value.{data_of};
 
+use crate::rows::nth_value;
 use crate::value::Columns;
 use crate::{PhpArray, Value};
 
@@ -47,13 +48,15 @@ fn same_columns(a: &Columns, b: &Columns) -> bool
     if b.len() != n {
         return false;
     }
-    let left = a.keys();
-    let right = b.keys();
     for at in 0..n {
-        if !left[at].is(&right[at]) {
+        let left = a.kept.at(a.start, a.gone, at);
+        let right = b.kept.at(b.start, b.gone, at);
+        if !left.is(right) {
             return false;
         }
-        if !same(&a.values[a.gone + at], &b.values[b.gone + at]) {
+        let mine = nth_value(&a.values, a.start, a.gone, at);
+        let other = nth_value(&b.values, b.start, b.gone, at);
+        if !same(mine, other) {
             return false;
         }
     }

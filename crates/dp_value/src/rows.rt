@@ -1,158 +1,271 @@
-//! The rows of an array: its keys and its values side by side, of which those at the front may be removed already.
+//! The rows of an array: its keys and its values side by side, of which some may be removed already.
 //!
-//! A row that is removed from the front stays as it is kept, with null for a value, until as many are removed as are
-//! left. Then they are cleared at once. So a queue takes a constant time for each entry on average, and what is kept
-//! is at most twice what is left, and a few more.
+//! A row that is removed may stay for a while, with null for a value. Such rows stand together, and move to where the
+//! next one is removed, by swaps with rows that are left; one that stands closer to the end goes by closing up. Where
+//! as many are removed as are left, they are cleared before the next removal. So a queue, and a sweep over all entries,
+//! take a constant time for each entry on average, and at most one row more is removed than are left.
 
-ghost use Rattle.std.specs.Prelude.{◌≡◌, ◌+◌, ◌<◌, ◌≤◌, length, take, drop, remove, IfSome, MatchOption};
-ghost use Rattle.std.specs.Prelude.{OnOk, OnErr};
-ghost use Rattle.dp_value.specs.Key.{key_eq};
+ghost use Rattle.std.specs.Prelude.{◌≡◌, ◌+◌, ◌<◌, ◌≤◌, ◌++◌, ◌∷◌, [], get_or, length, remove, set, OnOk, OnErr};
+ghost use Rattle.std.specs.Prelude.{IsTrue};
+ghost use Rattle.std.specs.List.{remove_range};
 ghost use Rattle.dp_value.specs.Data.{pairs_weight};
-ghost use Rattle.dp_value.specs.Place.{IsAbsent, IsFirst};
+ghost use Rattle.dp_value.specs.Key.{key_eq};
+ghost use Rattle.dp_value.specs.Place.{IsAbsent};
 ghost use Rattle.dp_value.specs.Table.{put, weight_limit};
-ghost use Rattle.dp_value.specs.Value.{data_of};
-ghost use Rattle.dp_value.specs.inner.Rows.{AreNull, left_in};
+ghost use Rattle.dp_value.specs.Value.{data_of, pairs_in};
+ghost use Rattle.dp_value.specs.inner.Kept.{is_rising, kept_keys};
+ghost use Rattle.dp_value.specs.inner.Left.{left};
+ghost use Rattle.dp_value.specs.inner.Rows.{left_in, AreNull, AreRows, GoesLast};
 
-use crate::key_column::KeyColumn;
+use crate::kept::{Kept, nth, row};
 use crate::{Key, Memory, Value, weight};
+use std::mem;
 
-/// So many rows are closed up at each removal.
-const FEW: usize = 32;
-
-/// The position of a key among the rows that are left.
-pub(crate) fn place(keys: &KeyColumn, gone: usize, key: &Key) -> Option<usize>
-    ensures place { MatchOption result (IsAbsent (key_eq key.now) (drop gone keys.now))
-        (IsFirst (key_eq key.now) (drop gone keys.now)) }
-    ensures within { IfSome result (λ i. gone + i < length keys.now) }
+/// The value at a position among those that are left.
+pub(crate) fn nth_value(values: &Vec<Value>, start: usize, gone: usize, at: usize) -> &Value
+    requires nulls { AreNull start gone values.now.items }
+    requires there { at < length (left start gone values.now.items) }
+    ensures { result.now ≡ get_or (left start gone values.now.items) at result.now }
 {
-    if keys.len() <= gone {
-        return None;
-    }
-    let row = keys.row_of(key)?;
-    if row < gone {
-        return None;
-    }
-    Some(row - gone)
+    nth(values.as_slice(), start, gone, at)
+}
+
+/// Puts a value at a position among those that are left, and gives the one out that was there.
+pub(crate) fn replace_nth(
+    values: &mut Vec<Value>,
+    start: usize,
+    gone: usize,
+    at: usize,
+    value: Value,
+) -> Value
+    requires nulls { AreNull start gone values.old.items }
+    requires there { at < length (left start gone values.old.items) }
+    ensures was { result ≡ get_or (left start gone values.old.items) at result }
+    ensures left { left start gone values.new.items ≡ set (left start gone values.old.items) at value }
+    ensures nulls { AreNull start gone values.new.items }
+    ensures same_length { length values.new.items ≡ length values.old.items }
+{
+    let found = row(start, gone, at);
+    mem::replace(&mut values[found], value)
 }
 
 /// Puts a value under a key: in its place where the key is there, else behind all others.
 pub(crate) fn store(
-    keys: &mut KeyColumn,
+    kept: &mut Kept,
     values: &mut Vec<Value>,
+    start: &mut usize,
+    gone: &mut usize,
+    key: Key,
+    value: Value,
+) -> Result<(), Memory>
+    requires { AreRows start.old gone.old (is_rising kept.old) (kept_keys kept.old) values.old.items }
+    ensures ok { OnOk result (left_in start.new gone.new (kept_keys kept.new) values.new.items ≡ put
+        (left_in start.old gone.old (kept_keys kept.old) values.old.items) key (data_of value)) }
+    ensures err { OnErr result (left_in start.new gone.new (kept_keys kept.new) values.new.items ≡ left_in start.old
+        gone.old (kept_keys kept.old) values.old.items) }
+    ensures rows { AreRows start.new gone.new (is_rising kept.new) (kept_keys kept.new) values.new.items }
+{
+    if let Some(at) = kept.place(*start, *gone, &key) {
+        let _ = replace_nth(values, *start, *gone, at, value);
+        return Ok(());
+    }
+    make_way(kept, values, start, gone, &key)?;
+    push_row(kept, values, *start, *gone, key, value)?;
+    Ok(())
+}
+
+/// Has a key that is not there go behind all rows. What is removed is cleared where it is in the way.
+fn make_way(
+    kept: &mut Kept,
+    values: &mut Vec<Value>,
+    start: &mut usize,
+    gone: &mut usize,
+    key: &Key,
+) -> Result<(), Memory>
+    requires rows { AreRows start.old gone.old (is_rising kept.old) (kept_keys kept.old) values.old.items }
+    requires absent { IsAbsent (key_eq key.now) (left start.old gone.old (kept_keys kept.old)) }
+    ensures keys { left start.new gone.new (kept_keys kept.new) ≡ left start.old gone.old (kept_keys kept.old) }
+    ensures values { left start.new gone.new values.new.items ≡ left start.old gone.old values.old.items }
+    ensures rows { AreRows start.new gone.new (is_rising kept.new) (kept_keys kept.new) values.new.items }
+    ensures way { OnOk result (GoesLast start.new gone.new (is_rising kept.new) (kept_keys kept.new) key.now) }
+{
+    if kept.takes(*start, *gone, key) {
+        return Ok(());
+    }
+    clear_rows(kept, values, start, gone);
+    kept.index()?;
+    Ok(())
+}
+
+/// Puts a row behind all others.
+fn push_row(
+    kept: &mut Kept,
+    values: &mut Vec<Value>,
+    start: usize,
     gone: usize,
     key: Key,
     value: Value,
 ) -> Result<(), Memory>
-    requires same_length { length values.old.items ≡ length keys.old }
-    requires nulls { AreNull gone values.old.items }
-    requires fresh { IsAbsent (key_eq key) (take gone keys.old) }
-    ensures ok { OnOk result (left_in gone keys.new values.new.items ≡ put
-        (left_in gone keys.old values.old.items) key (data_of value)) }
-    ensures err { OnErr result (left_in gone keys.new values.new.items ≡ left_in gone keys.old
-        values.old.items) }
-    ensures same_length { length values.new.items ≡ length keys.new }
-    ensures nulls { AreNull gone values.new.items }
+    requires rows { AreRows start gone (is_rising kept.old) (kept_keys kept.old) values.old.items }
+    requires way { GoesLast start gone (is_rising kept.old) (kept_keys kept.old) key }
+    ensures ok { OnOk result (left_in start gone (kept_keys kept.new) values.new.items ≡ pairs_in
+        (left start gone (kept_keys kept.old) ++ key ∷ []) (left start gone values.old.items ++ value ∷ [])) }
+    ensures err { OnErr result (left_in start gone (kept_keys kept.new) values.new.items ≡ left_in start gone (kept_keys
+        kept.old) values.old.items) }
+    ensures rows { AreRows start gone (is_rising kept.new) (kept_keys kept.new) values.new.items }
 {
-    if let Some(at) = place(keys, gone, &key) {
-        values[gone + at] = value;
-        return Ok(());
-    }
     values.reserve(1)?;
-    keys.push(key)?;
+    kept.push(key)?;
     values.push_reserved(value);
     Ok(())
 }
 
-/// Clears the rows that are removed already where this key is in one of them.
-pub(crate) fn forget(keys: &mut KeyColumn, values: &mut Vec<Value>, gone: &mut usize, key: &Key)
-    requires same_length { length values.old.items ≡ length keys.old }
-    requires nulls { AreNull gone.old values.old.items }
-    ensures keys { drop gone.new keys.new ≡ drop gone.old keys.old }
-    ensures values { drop gone.new values.new.items ≡ drop gone.old values.old.items }
-    ensures same_length { length values.new.items ≡ length keys.new }
-    ensures nulls { AreNull gone.new values.new.items }
-    ensures fresh { IsAbsent (key_eq key.now) (take gone.new keys.new) }
-{
-    if *gone == 0 {
-        return;
-    }
-    let Some(row) = keys.row_of(key) else {
-        return;
-    };
-    if row < *gone {
-        clear(keys, values, gone);
-    }
-}
-
 /// Takes a row out of those that are left, and gives what it weighed.
 pub(crate) fn take_out(
-    keys: &mut KeyColumn,
+    kept: &mut Kept,
     values: &mut Vec<Value>,
+    start: &mut usize,
     gone: &mut usize,
     at: usize,
 ) -> u64
-    requires within { gone.old + at < length keys.old }
-    requires same_length { length values.old.items ≡ length keys.old }
-    requires nulls { AreNull gone.old values.old.items }
-    requires light { pairs_weight (left_in gone.old keys.old values.old.items) ≤ weight_limit }
-    ensures keys { drop gone.new keys.new ≡ remove (drop gone.old keys.old) at }
-    ensures values { drop gone.new values.new.items ≡ remove (drop gone.old values.old.items) at }
-    ensures same_length { length values.new.items ≡ length keys.new }
-    ensures nulls { AreNull gone.new values.new.items }
-    ensures weight { result + pairs_weight (left_in gone.new keys.new values.new.items) ≡ pairs_weight
-        (left_in gone.old keys.old values.old.items) }
+    requires rows { AreRows start.old gone.old (is_rising kept.old) (kept_keys kept.old) values.old.items }
+    requires there { at < length (left start.old gone.old (kept_keys kept.old)) }
+    requires light { pairs_weight (left_in start.old gone.old (kept_keys kept.old) values.old.items) ≤ weight_limit }
+    ensures keys { left start.new gone.new (kept_keys kept.new) ≡ remove (left start.old gone.old (kept_keys kept.old))
+        at }
+    ensures values { left start.new gone.new values.new.items ≡ remove (left start.old gone.old values.old.items) at }
+    ensures rows { AreRows start.new gone.new (is_rising kept.new) (kept_keys kept.new) values.new.items }
+    ensures weight { result + pairs_weight (left_in start.new gone.new (kept_keys kept.new) values.new.items) ≡
+        pairs_weight (left_in start.old gone.old (kept_keys kept.old) values.old.items) }
 {
-    let key = &keys.as_slice()[*gone + at];
-    let value = &values[*gone + at];
+    let key = kept.at(*start, *gone, at);
+    let value = nth_value(values, *start, *gone, at);
     let weight = 1 + key.weight() + weight(value);
-    take_row(keys, values, gone, at);
-    clear_many(keys, values, gone);
+    take_row(kept, values, start, gone, at);
     weight
 }
 
-/// Takes a row out of those that are left: the first of more than a few by a mark, any other by closing up.
-fn take_row(keys: &mut KeyColumn, values: &mut Vec<Value>, gone: &mut usize, at: usize)
-    requires within { gone.old + at < length keys.old }
-    requires same_length { length values.old.items ≡ length keys.old }
-    requires nulls { AreNull gone.old values.old.items }
-    ensures keys { drop gone.new keys.new ≡ remove (drop gone.old keys.old) at }
-    ensures values { drop gone.new values.new.items ≡ remove (drop gone.old values.old.items) at }
-    ensures same_length { length values.new.items ≡ length keys.new }
-    ensures nulls { AreNull gone.new values.new.items }
+/// Takes a row out of those that are left: by closing up where it stands close to the end, else by a mark.
+fn take_row(
+    kept: &mut Kept,
+    values: &mut Vec<Value>,
+    start: &mut usize,
+    gone: &mut usize,
+    at: usize,
+)
+    requires rows { AreRows start.old gone.old (is_rising kept.old) (kept_keys kept.old) values.old.items }
+    requires there { gone.old + at < length (kept_keys kept.old) }
+    ensures keys { left start.new gone.new (kept_keys kept.new) ≡ remove (left start.old gone.old (kept_keys kept.old))
+        at }
+    ensures values { left start.new gone.new values.new.items ≡ remove (left start.old gone.old values.old.items) at }
+    ensures rows { AreRows start.new gone.new (is_rising kept.new) (kept_keys kept.new) values.new.items }
 {
-    if at == 0 && values.len() > FEW {
-        values[*gone] = Value::Null;
-        *gone += 1;
-        return;
-    }
-    keys.remove(*gone + at);
-    let _ = values.remove(*gone + at);
+    clear_many(kept, values, start, gone);
+    remove_row(kept, values, start, gone, at);
 }
 
-/// Clears the rows that are removed already where they are as many as those left.
-fn clear_many(keys: &mut KeyColumn, values: &mut Vec<Value>, gone: &mut usize)
-    requires same_length { length values.old.items ≡ length keys.old }
-    requires nulls { AreNull gone.old values.old.items }
-    ensures keys { drop gone.new keys.new ≡ drop gone.old keys.old }
-    ensures values { drop gone.new values.new.items ≡ drop gone.old values.old.items }
-    ensures same_length { length values.new.items ≡ length keys.new }
-    ensures nulls { AreNull gone.new values.new.items }
+/// The same where fewer rows are removed than are left.
+fn remove_row(
+    kept: &mut Kept,
+    values: &mut Vec<Value>,
+    start: &mut usize,
+    gone: &mut usize,
+    at: usize,
+)
+    requires rows { AreRows start.old gone.old (is_rising kept.old) (kept_keys kept.old) values.old.items }
+    requires there { gone.old + at < length (kept_keys kept.old) }
+    ensures keys { left start.new gone.new (kept_keys kept.new) ≡ remove (left start.old gone.old (kept_keys kept.old))
+        at }
+    ensures values { left start.new gone.new values.new.items ≡ remove (left start.old gone.old values.old.items) at }
+    ensures rows { AreRows start.new gone.new (is_rising kept.new) (kept_keys kept.new) values.new.items }
 {
-    if *gone >= values.len() - *gone {
-        clear(keys, values, gone);
+    let rows = kept.len();
+    if closes_up(*start, *gone, at, rows) {
+        kept.remove(*gone + at);
+        let _ = values.remove(*gone + at);
+        return;
+    }
+    move_rows(kept, values, start, gone, at);
+    values[*start + *gone] = Value::Null;
+    *gone += 1;
+}
+
+/// Clears the rows that are removed already where they are as many as those that are left.
+fn clear_many(kept: &mut Kept, values: &mut Vec<Value>, start: &mut usize, gone: &mut usize)
+    requires { AreRows start.old gone.old (is_rising kept.old) (kept_keys kept.old) values.old.items }
+    ensures keys { left start.new gone.new (kept_keys kept.new) ≡ left start.old gone.old (kept_keys kept.old) }
+    ensures values { left start.new gone.new values.new.items ≡ left start.old gone.old values.old.items }
+    ensures rows { AreRows start.new gone.new (is_rising kept.new) (kept_keys kept.new) values.new.items }
+{
+    if *gone >= kept.len() - *gone {
+        clear_rows(kept, values, start, gone);
+    }
+}
+
+/// Whether a row behind those that are removed goes by closing up: the last one, or one that stands no farther from the
+/// end than from them.
+fn closes_up(start: usize, gone: usize, at: usize, rows: usize) -> bool
+    requires { gone + at < rows }
+    ensures { IsTrue result → start ≤ at }
+{
+    let behind = rows - gone - at;
+    start <= at && (behind == 1 || (gone > 0 && behind <= at - start))
+}
+
+/// Has the rows that are removed stand before the row at a position. They are cleared where they stand behind it.
+fn move_rows(
+    kept: &mut Kept,
+    values: &mut Vec<Value>,
+    start: &mut usize,
+    gone: &mut usize,
+    at: usize,
+)
+    requires rows { AreRows start.old gone.old (is_rising kept.old) (kept_keys kept.old) values.old.items }
+    requires there { gone.old + at < length (kept_keys kept.old) }
+    ensures keys { left start.new gone.new (kept_keys kept.new) ≡ left start.old gone.old (kept_keys kept.old) }
+    ensures values { left start.new gone.new values.new.items ≡ left start.old gone.old values.old.items }
+    ensures rows { AreRows start.new gone.new (is_rising kept.new) (kept_keys kept.new) values.new.items }
+    ensures there { start.new ≡ at }
+    ensures room { start.new + gone.new < length values.new.items }
+{
+    if *gone == 0 {
+        *start = at;
+        return;
+    }
+    if at < *start {
+        clear_rows(kept, values, start, gone);
+        *start = at;
+        return;
+    }
+    'rows: while *start < at {
+        kept.swap(*start, *start + *gone);
+        values.swap(*start, *start + *gone);
+        *start += 1;
     }
 }
 
 /// Clears the rows that are removed already.
-fn clear(keys: &mut KeyColumn, values: &mut Vec<Value>, gone: &mut usize)
-    requires same_length { length values.old.items ≡ length keys.old }
-    requires nulls { AreNull gone.old values.old.items }
-    ensures keys { keys.new ≡ drop gone.old keys.old }
-    ensures values { values.new.items ≡ drop gone.old values.old.items }
+fn clear_rows(kept: &mut Kept, values: &mut Vec<Value>, start: &mut usize, gone: &mut usize)
+    requires { AreRows start.old gone.old (is_rising kept.old) (kept_keys kept.old) values.old.items }
+    ensures keys { kept_keys kept.new ≡ left start.old gone.old (kept_keys kept.old) }
+    ensures values { values.new.items ≡ left start.old gone.old values.old.items }
+    ensures start { start.new ≡ 0 }
     ensures none { gone.new ≡ 0 }
-    ensures same_length { length values.new.items ≡ length keys.new }
+    ensures rows { AreRows start.new gone.new (is_rising kept.new) (kept_keys kept.new) values.new.items }
 {
-    keys.remove_front(*gone);
-    drop(values.drain(..*gone));
+    // The number of rows is what says that a row fits.
+    let _rows = kept.len();
+    kept.remove_between(*start, *start + *gone);
+    remove_between(values, *start, *start + *gone);
+    *start = 0;
     *gone = 0;
+}
+
+/// Removes the values in the rows from one up to another.
+fn remove_between(values: &mut Vec<Value>, from: usize, to: usize)
+    requires order { from ≤ to }
+    requires within { to ≤ length values.old.items }
+    ensures { values.new.items ≡ remove_range values.old.items from to }
+{
+    drop(values.drain(from..to));
 }

@@ -1,13 +1,13 @@
 //! The values of the language.
 
-ghost use Rattle.std.specs.Prelude.{◌≡◌, ◌==◌, ◌<◌, ◌↔◌, ◌⊎◌, length, map, min, slice_get, is_some, option_map};
+ghost use Rattle.std.specs.Prelude.{◌≡◌, ◌==◌, ◌<◌, ◌↔◌, ◌⊎◌, length, min, slice_get, is_some, option_map};
 ghost use Rattle.std.specs.Prelude.{None, Some, Ok, false, OnOk, OnErr, IfOk, IfErr, IsErrOf};
 ghost use Rattle.dp_value.specs.Data.{null, pairs_weight};
-ghost use Rattle.dp_value.specs.Table.{empty, keys_of, values_of, value_at, put, table_set, table_push, table_remove};
+ghost use Rattle.dp_value.specs.Table.{empty, value_at, put, table_set, table_push, table_remove};
 ghost use Rattle.dp_value.specs.Table.{weight_limit, largest_int, IsTable};
 
 use crate::columns::{first_entry, set_in};
-use crate::key_column::KeyColumn;
+use crate::kept::Kept;
 use crate::{Key, Memory, Text, ValueError};
 use std::alloc::Global;
 use std::marker::Model;
@@ -58,14 +58,14 @@ impl Model for PhpArray {
     ghost size_decreases = { λ a h. Prim.grind arith };
 }
 
-/// What an array keeps behind its pointer: its keys and its values side by side, how many rows at the front are removed
-/// already, the largest integer key ever used, and the weight of what is left. A removed row keeps its key, which is no
-/// key of the array, and its value is null.
+/// What an array keeps behind its pointer: its keys and its values side by side, from which row on how many are removed
+/// already, the largest integer key ever used, and the weight of what is left. A value that is removed is null.
 #[cycle(value)]
 #[derive(Debug, Drop)]
 pub struct Columns {
-    pub(crate) keys: KeyColumn,
+    pub(crate) kept: Kept,
     pub(crate) values: Vec<Value>,
+    pub(crate) start: usize,
     pub(crate) gone: usize,
     pub(crate) largest: Option<i64>,
     pub(crate) weight: u64,
@@ -90,8 +90,10 @@ impl Model for Columns {
     ghost size = { columns_size };
 
     ghost use Rattle.dp_value.specs.inner.Falls.{most_le_depth};
+    ghost use Rattle.dp_value.specs.inner.Kept.{kept_keys};
 
-    ghost size_decreases = { λ a h. most_le_depth a.gone a.keys a.values.items h.same_length h.nulls };
+    ghost size_decreases = { λ a h. most_le_depth a.start a.gone (kept_keys a.kept) a.values.items h.rows.same_length
+        h.rows.nulls };
 }
 
 impl PhpArray {
@@ -125,26 +127,6 @@ impl PhpArray {
         match &self.columns {
             None => true,
             Some(columns) => columns.is_empty(),
-        }
-    }
-
-    /// The keys in the array's order. Takes no memory.
-    pub fn keys(&self) -> &[Key]
-        ensures { result.now ≡ keys_of self.now.pairs }
-    {
-        match &self.columns {
-            None => &[],
-            Some(columns) => columns.keys(),
-        }
-    }
-
-    /// The values in the array's order. Takes no memory.
-    pub fn values(&self) -> &[Value]
-        ensures { map data_of result.now ≡ values_of self.now.pairs }
-    {
-        match &self.columns {
-            None => &[],
-            Some(columns) => columns.values(),
         }
     }
 

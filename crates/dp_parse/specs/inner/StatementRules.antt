@@ -26,7 +26,7 @@ use Rattle.dp_token_rules.specs.inner.Input.{Outcome, Reader, ◌>>=◌, ◌>>�
 use Rattle.dp_token_rules.specs.inner.ListReaders.{plain_items, some_items, any_plain_items, any_items, many}
 use Rattle.dp_token_rules.specs.TokenValues.{Text, name_in, number_up_to}
 use Rattle.dp_expressions.specs.inner.Readers.{reading, reading_place}
-use Rattle.dp_parse.specs.Statements.{breaks, defined_as}
+use Rattle.dp_parse.specs.Statements.{ends_constant, definition_of}
 use Rattle.dp_parse.specs.Statements.{ended, whole, binding, parameter_in, Arms, with_arm, stated, Depth, function_of, no_parts, with_statement, with_function}
 
 unfoldable pub on_its_line : Reader Ended → Reader Body
@@ -289,7 +289,7 @@ definition expression = do
   name ← kind name_in
   mark terminal.Assign
   value ← expression
-  gives (defined_as name value)
+  gives (definition_of name value)
 
 abbrev pub next_definition : Reader Expression → Reader Definition
 next_definition expression = mark terminal.Comma >> definition expression
@@ -303,11 +303,11 @@ definitions expression = do
 
 -- how many of these tokens stand before the first with which a constant's expression does not go
 -- on, where they stand behind a name or not
-abbrev pub fixed_len : Bool → List Token → ℕ
-fixed_len named [] = 0
-fixed_len named (t ∷ ts) =
-    if breaks named (terminal_of t.kind) then 0
-    else suc (fixed_len (is terminal.Name (terminal_of t.kind)) ts)
+abbrev pub constants_len : Bool → List Token → ℕ
+constants_len named [] = 0
+constants_len named (t ∷ ts) =
+    if ends_constant named (terminal_of t.kind) then 0
+    else suc (constants_len (is terminal.Name (terminal_of t.kind)) ts)
 
 -- a refusal among the first so many of all, by how many are left of all
 abbrev pub among_all : ℕ → ℕ → Refusal → Refusal
@@ -321,12 +321,13 @@ of_first ts first (Ok x) = Ok (x.0, drop (first - length x.1) ts)
 of_first ts first (Err refusal) = Err (among_all (length ts) first refusal)
 
 -- what is read of those tokens alone
-unfoldable pub fixed : {A : Type 0} → Reader A → Reader A
-fixed read ts = of_first ts (fixed_len false ts) (read (take (fixed_len false ts) ts))
+unfoldable pub of_constants : {A : Type 0} → Reader A → Reader A
+of_constants read ts =
+    of_first ts (constants_len false ts) (read (take (constants_len false ts) ts))
 
 unfoldable pub constants_rule : Reader Expression → Reader Ended
 constants_rule expression = do
-  all ← fixed (definitions expression)
+  all ← of_constants (definitions expression)
   mark terminal.Semicolon
   gives (whole (tree.Constants all))
 

@@ -6,9 +6,9 @@ use Rattle.dp_value.specs.declared.key.Key.{Key}
 use Rattle.dp_value.specs.declared.value.Value.{Value}
 use Rattle.dp_value.specs.declared.value.Value.TheVariants.{Null, Bool, Int, Text, Array}
 use Rattle.dp_value.specs.declared.value.Columns.TheDeep.{deep-Value}
-use Rattle.dp_value.specs.Data.{depth, entries_depth, entries_of}
+use Rattle.dp_value.specs.Data.{Data, depth, entries_depth, entries_of}
 use Rattle.dp_value.specs.Value.{data_of, pairs_in}
-use Rattle.dp_value.specs.inner.Rows.{AreNull, left_in}
+use Rattle.dp_value.specs.inner.Rows.{left_in, AreNull}
 
 deep_le : (v : Value) → deep-Value v ≤ suc (suc (depth (data_of v) + depth (data_of v)))
 deep_le Null = omega arith
@@ -17,31 +17,33 @@ deep_le (Int n) = omega arith
 deep_le (Text bytes) = omega arith
 deep_le (Array t) = omega arith
 
-all_le_depth : (ks : List Key) (vs : List Value) → length vs ≡ length ks
-    → max (most deep-Value vs) 0
-    ≤ suc (entries_depth (entries_of (pairs_in ks vs)))
-    + suc (entries_depth (entries_of (pairs_in ks vs)))
+-- a bound for the values of an array with these pairs
+abbrev pub most_of : List (Key × Data) → ℕ
+most_of ps = suc (entries_depth (entries_of ps)) + suc (entries_depth (entries_of ps))
+
+pub all_le_depth : (ks : List Key) (vs : List Value) → length vs ≡ length ks
+    → max (most deep-Value vs) 0 ≤ most_of (pairs_in ks vs)
 all_le_depth ks [] same = omega arith
 all_le_depth [] (v ∷ vs) same = omega arith
 all_le_depth (k ∷ ks) (v ∷ vs) same =
-    let rest : max (most deep-Value vs) 0
-    ≤ suc (entries_depth (entries_of (pairs_in ks vs)))
-    + suc (entries_depth (entries_of (pairs_in ks vs))) =
+    let rest : max (most deep-Value vs) 0 ≤ most_of (pairs_in ks vs) =
     all_le_depth ks vs (omega arith) in
     omega (arith, deep_le v)
 
 -- a row that is removed nests least of all
-pub most_le_depth : (gone : ℕ) (ks : List Key) (vs : List Value) → length vs ≡ length ks
-    → AreNull gone vs → max (most deep-Value vs) 0
-    ≤ suc (entries_depth (entries_of (left_in gone ks vs)))
-    + suc (entries_depth (entries_of (left_in gone ks vs)))
-most_le_depth zero ks vs same nulls = all_le_depth ks vs same
-most_le_depth (suc n) ks [] same nulls = absurd nulls
-most_le_depth (suc n) [] (v ∷ vs) same nulls = omega arith
-most_le_depth (suc n) (k ∷ ks) (v ∷ vs) same nulls =
-    let rest : max (most deep-Value vs) 0
-    ≤ suc (entries_depth (entries_of (left_in n ks vs)))
-    + suc (entries_depth (entries_of (left_in n ks vs))) =
-    most_le_depth n ks vs (omega arith) nulls.1 in
+pub most_le_depth : (start gone : ℕ) (ks : List Key) (vs : List Value) → length vs ≡ length ks
+    → AreNull start gone vs → max (most deep-Value vs) 0 ≤ most_of (left_in start gone ks vs)
+most_le_depth zero zero ks vs same nulls = all_le_depth ks vs same
+most_le_depth zero (suc n) ks [] same nulls = absurd nulls
+most_le_depth zero (suc n) [] (v ∷ vs) same nulls = omega arith
+most_le_depth zero (suc n) (k ∷ ks) (v ∷ vs) same nulls =
+    let rest : max (most deep-Value vs) 0 ≤ most_of (left_in zero n ks vs) =
+    most_le_depth zero n ks vs (omega arith) nulls.1 in
     let none : deep-Value v ≡ deep-Value Null = ap deep-Value nulls.0 in
     omega (arith, deep_le Null, none)
+most_le_depth (suc n) gone ks [] same nulls = absurd nulls
+most_le_depth (suc n) gone [] (v ∷ vs) same nulls = omega arith
+most_le_depth (suc n) gone (k ∷ ks) (v ∷ vs) same nulls =
+    let rest : max (most deep-Value vs) 0 ≤ most_of (left_in n gone ks vs) =
+    most_le_depth n gone ks vs (omega arith) nulls in
+    omega (arith, deep_le v)

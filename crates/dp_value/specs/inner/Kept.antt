@@ -1,21 +1,13 @@
--- How the keys of an array are kept: integers that rise in a vector, others in a set.
-use Rattle.std.specs.Prelude.{List, ⊤}
+-- How keys are kept: integers that rise in a vector, others in a set.
+use Rattle.std.specs.Prelude.{Bool, true, false, List}
 use Rattle.dp_value.specs.declared.key.Key.{Key}
-use Rattle.dp_value.specs.declared.key_column.Kept.{Kept}
-use Rattle.dp_value.specs.declared.key_column.Kept.TheVariants.{Rising, Indexed}
-use Rattle.dp_value.specs.declared.key_column.KeyColumn.TheInside.{Inside}
-use Rattle.dp_value.specs.inner.Rising.{IsRising}
+use Rattle.dp_value.specs.declared.kept.Kept.{Kept}
+use Rattle.dp_value.specs.declared.kept.Kept.TheVariants.{Rising, Indexed}
 
 abbrev pub kept_keys : Kept → List Key
 kept_keys (Rising keys) = keys.items
 kept_keys (Indexed keys) = keys.keys
 
-abbrev pub keys_in : Inside → List Key
-keys_in a = kept_keys a.kept
-
-abbrev pub Rises : Kept → Type 0
-Rises (Rising keys) = IsRising keys.items
-Rises (Indexed keys) = ⊤
-
-abbrev pub IsKept : Inside → Type 0
-IsKept a = Rises a.kept
+abbrev pub is_rising : Kept → Bool
+is_rising (Rising keys) = true
+is_rising (Indexed keys) = false

@@ -1,10 +1,10 @@
 use Rattle.dp_actions.proofs.constants.native_call.Goals as goal
 
-pub returns-in-Table : goal.returns-in-Table
-returns-in-Table c = rw c.in-Table.is c.builtin_call.ensures
+pub returns-in-Table-clause-run : goal.returns-in-Table-clause-run
+returns-in-Table-clause-run c = rw c.in-Table.is c.builtin_call.ensures
 
-pub returns-in-Define : goal.returns-in-Define
-returns-in-Define c = rw c.in-Define.is c.define.ensures
+pub returns-in-Define-clause-run : goal.returns-in-Define-clause-run
+returns-in-Define-clause-run c = rw c.in-Define.is c.define.ensures.run
 
-pub returns-in-Defined : goal.returns-in-Defined
-returns-in-Defined c = rw c.in-Defined.is c.defined.ensures
+pub returns-in-Defined-clause-run : goal.returns-in-Defined-clause-run
+returns-in-Defined-clause-run c = rw c.in-Defined.is c.defined.ensures.run

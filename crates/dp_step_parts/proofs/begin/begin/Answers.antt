@@ -35,7 +35,7 @@ returns-in-Variable c = λ setting.
 pub returns-in-Constant : goal.returns-in-Constant
 returns-in-Constant c = λ setting.
     rw (c.in-Constant.is, begins.begins-Constant setting begins.anything c.args.state.now c.in-Constant.name)
-    (c.given-in-Constant.ensures setting _ c.args.state.now c.constant_value.ensures)
+    (c.given-in-Constant.ensures setting _ c.args.state.now c.constant_value.ensures.run)
 
 pub returns-in-Array : goal.returns-in-Array
 returns-in-Array c = λ setting. record {

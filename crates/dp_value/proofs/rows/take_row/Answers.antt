@@ -1,31 +1,25 @@
-use Rattle.std.proofs.Common.{◌≡◌, ◌+◌, List, drop, remove, ap, sym, subst, ◌∙◌, add-one, arith}
+use Rattle.std.proofs.Common.{List, remove, length, ap, ◌∙◌, arith}
+use Rattle.dp_value.specs.declared.key.Key.{Key}
 use Rattle.dp_value.specs.declared.value.Value.{Value}
-use Rattle.dp_value.specs.inner.Rows.{AreNull}
-use Rattle.dp_value.proofs.RowLemmas.{AreNull-next, AreNull-remove, drop-next, drop-remove}
+use Rattle.dp_value.specs.inner.Kept.{kept_keys}
+use Rattle.dp_value.proofs.LeftLemmas.{length-left}
 use Rattle.dp_value.proofs.rows.take_row.Goals as goal
 
-pub returns-then-len-gt-FEW-clause-keys : goal.returns-then-len-gt-FEW-clause-keys
-returns-then-len-gt-FEW-clause-keys c =
-    let at : 0 ≡ c.args.at = omega (arith, c.if-at-eq0.true) in
-    rw add-one (drop-next c.args.gone.now c.args.keys.now
-    ∙ ap (remove (drop c.args.gone.now c.args.keys.now)) at)
-
-pub returns-then-len-gt-FEW-clause-nulls : goal.returns-then-len-gt-FEW-clause-nulls
-returns-then-len-gt-FEW-clause-nulls c =
-    rw add-one (AreNull-next c.args.gone.now c.args.values.now.items c.requires.nulls
-    (omega (arith, c.requires.within, c.requires.same_length)))
+pub remove_row-requires-clause-there : goal.remove_row-requires-clause-there
+remove_row-requires-clause-there c =
+    omega (
+      arith,
+      c.requires.there,
+      length-left c.args.start.now c.args.gone.now (kept_keys c.args.kept.now) c.requires.rows.keys.within,
+      length-left c.clear_many.new.start c.clear_many.new.gone (kept_keys c.clear_many.new.kept)
+          c.clear_many.ensures.rows.keys.within,
+      ap length c.clear_many.ensures.keys,
+    )
 
 pub returns-clause-keys : goal.returns-clause-keys
 returns-clause-keys c =
-    ap (drop c.args.gone.now) c.remove.ensures
-    ∙ drop-remove c.args.gone.now c.args.at c.args.keys.now
+    c.remove_row.ensures.keys ∙ ap (λ (xs : List Key). remove xs c.args.at) c.clear_many.ensures.keys
 
 pub returns-clause-values : goal.returns-clause-values
 returns-clause-values c =
-    ap (drop c.args.gone.now) c.remove-2.ensures.items ∙ drop-remove c.args.gone.now c.args.at c.args.values.now.items
-
-pub returns-clause-nulls : goal.returns-clause-nulls
-returns-clause-nulls c =
-    subst (λ (vs : List Value). AreNull c.args.gone.now vs) (sym c.remove-2.ensures.items)
-    (AreNull-remove c.args.gone.now (c.args.gone.now + c.args.at) c.args.values.now.items c.requires.nulls
-    (omega arith))
+    c.remove_row.ensures.values ∙ ap (λ (xs : List Value). remove xs c.args.at) c.clear_many.ensures.values

@@ -35,7 +35,7 @@ pub expression-returns-in-Variable : goal.expression-returns-in-Variable
 expression-returns-in-Variable t c = λ setting. rw (c.in-Variable.is, run-Variable) c.variable_value.ensures
 
 pub expression-returns-in-Constant : goal.expression-returns-in-Constant
-expression-returns-in-Constant t c = λ setting. rw (c.in-Constant.is, run-Constant) c.constant_value.ensures
+expression-returns-in-Constant t c = λ setting. rw (c.in-Constant.is, run-Constant) c.constant_value.ensures.run
 
 pub expression-returns-in-Array : goal.expression-returns-in-Array
 expression-returns-in-Array t c =

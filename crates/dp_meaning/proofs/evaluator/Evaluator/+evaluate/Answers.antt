@@ -38,7 +38,7 @@ pub expression-returns-in-Variable : goal.expression-returns-in-Variable
 expression-returns-in-Variable g t c = rw (c.in-Variable.is, run-Variable) (at_once c.variable_value.ensures)
 
 pub expression-returns-in-Constant : goal.expression-returns-in-Constant
-expression-returns-in-Constant g t c = rw (c.in-Constant.is, run-Constant) (at_once c.constant_value.ensures)
+expression-returns-in-Constant g t c = rw (c.in-Constant.is, run-Constant) (at_once c.constant_value.ensures.run)
 
 pub expression-returns-in-Array : goal.expression-returns-in-Array
 expression-returns-in-Array g t c = rw (c.in-Array.is, run-Array) (rw c.as_slice.ensures at c.array.ensures)
@@ -328,7 +328,8 @@ pub call_builtin-returns-in_err-values : goal.call_builtin-returns-in_err-values
 call_builtin-returns-in_err-values g t c = exits c.from_residual.ensures.1 (breaks_off _ c.in_err-values.ensures)
 
 pub call_builtin-returns : goal.call_builtin-returns
-call_builtin-returns g t c = goes_on _ c.in_ok-values.ensures (at_once (rw c.as_slice.ensures at c.native_call.ensures))
+call_builtin-returns g t c =
+    goes_on _ c.in_ok-values.ensures (at_once (rw c.as_slice.ensures at c.native_call.ensures.run))
 
 pub named-returns-in_err-values-in-Some-Declared : goal.named-returns-in_err-values-in-Some-Declared
 named-returns-in_err-values-in-Some-Declared g t c = exits c.from_residual.ensures.1 (rw (sym c.look_up.ensures ∙ ap

@@ -1,51 +1,50 @@
-use Rattle.std.proofs.Common.{◌+◌, ◌<◌, length, map, sym, ap, ◌∙◌, arith}
+use Rattle.std.proofs.Common.{map, sym, ap, ◌∙◌, arith}
 use Rattle.dp_value.specs.Data.{Table, null, pairs_weight}
 use Rattle.dp_value.specs.Key.{key_eq}
 use Rattle.dp_value.specs.Table.{put, value_at}
 use Rattle.dp_value.specs.Value.{data_of}
 use Rattle.dp_value.proofs.PairLemmas.{absent-find_value, first-find_value, weight-put-first, weight-put-absent, weight-at}
 use Rattle.dp_value.specs.inner.Inside.{keys_left, values_left}
-use Rattle.dp_value.proofs.ArrayLemmas.{left_value, same_left}
+use Rattle.dp_value.proofs.ArrayLemmas.{read_value, same_left, there}
 use Rattle.dp_value.proofs.value.Columns.entry.Goals as goal
+
+pub nth_value-value-requires-clause-there : goal.nth_value-value-requires-clause-there
+nth_value-value-requires-clause-there c =
+    there c.self.inside c.self.invariant (key_eq c.args.key.now) c.in-Some.at c.in-Some.ensures
 
 pub overflow_sub-result : goal.overflow_sub-result
 overflow_sub-result c =
-    let within : c.self.inside.gone + c.in-Some.at < length c.self.inside.values.items = omega
-    (arith, c.in-Some.ensures.within, c.self.invariant.same_length) in
-    let row = left_value c.self.inside.gone c.self.inside.values.items c.in-Some.at c.index-value.result.now within
-    c.index-value.ensures in
+    let row = read_value c.self.inside c.self.invariant (key_eq c.args.key.now) c.in-Some.at c.in-Some.ensures
+    c.nth_value-value.result.now c.nth_value-value.ensures in
     omega (
       arith,
       c.weight-of_value.ensures,
       c.self.invariant.weight,
       weight-at (keys_left c.self.inside) (map data_of (values_left c.self.inside)) c.in-Some.at
-          (data_of c.index-value.result.now)
+          (data_of c.nth_value-value.result.now)
           (same_left c.self.inside c.self.invariant) row,
     )
 
 pub returns-in-Some-clause-value : goal.returns-in-Some-clause-value
 returns-in-Some-clause-value c =
-    let within : c.self.inside.gone + c.in-Some.at < length c.self.inside.values.items = omega
-    (arith, c.in-Some.ensures.within, c.self.invariant.same_length) in
     sym (first-find_value (key_eq c.args.key.now) (keys_left c.self.inside)
-    (map data_of (values_left c.self.inside)) c.in-Some.at c.in-Some.ensures.place
+    (map data_of (values_left c.self.inside)) c.in-Some.at c.in-Some.ensures
     (same_left c.self.inside c.self.invariant)
-    ∙ left_value c.self.inside.gone c.self.inside.values.items c.in-Some.at c.index-value.result.now within c.index-value.ensures)
+    ∙ read_value c.self.inside c.self.invariant (key_eq c.args.key.now) c.in-Some.at c.in-Some.ensures
+    c.nth_value-value.result.now c.nth_value-value.ensures)
     ∙ ap (λ (t : Table). value_at t c.args.key.now) c.self.view_is
 
 pub returns-in-Some-clause-beside : goal.returns-in-Some-clause-beside
 returns-in-Some-clause-beside c =
-    let within : c.self.inside.gone + c.in-Some.at < length c.self.inside.values.items = omega
-    (arith, c.in-Some.ensures.within, c.self.invariant.same_length) in
-    let row = left_value c.self.inside.gone c.self.inside.values.items c.in-Some.at c.index-value.result.now within
-    c.index-value.ensures in
+    let row = read_value c.self.inside c.self.invariant (key_eq c.args.key.now) c.in-Some.at c.in-Some.ensures
+    c.nth_value-value.result.now c.nth_value-value.ensures in
     let seen = ap (λ (t : Table). pairs_weight (put t.pairs c.args.key.now null)) c.self.view_is in
     let lighter = weight-at (keys_left c.self.inside) (map data_of (values_left c.self.inside)) c.in-Some.at
-    (data_of c.index-value.result.now)
+    (data_of c.nth_value-value.result.now)
     (same_left c.self.inside c.self.invariant) row in
     let written = weight-put-first c.args.key.now (keys_left c.self.inside)
     (map data_of (values_left c.self.inside)) c.in-Some.at
-    (data_of c.index-value.result.now) null c.in-Some.ensures.place row in
+    (data_of c.nth_value-value.result.now) null c.in-Some.ensures row in
     omega (
       arith,
       seen,
@@ -58,14 +57,14 @@ returns-in-Some-clause-beside c =
 pub returns-in-None-clause-value : goal.returns-in-None-clause-value
 returns-in-None-clause-value c =
     sym (absent-find_value (key_eq c.args.key.now) (keys_left c.self.inside)
-    (map data_of (values_left c.self.inside)) c.in-None.ensures.place)
+    (map data_of (values_left c.self.inside)) c.in-None.ensures)
     ∙ ap (λ (t : Table). value_at t c.args.key.now) c.self.view_is
 
 pub returns-in-None-clause-beside : goal.returns-in-None-clause-beside
 returns-in-None-clause-beside c =
     let seen = ap (λ (t : Table). pairs_weight (put t.pairs c.args.key.now null)) c.self.view_is in
     let written = weight-put-absent c.args.key.now (keys_left c.self.inside)
-    (map data_of (values_left c.self.inside)) null c.in-None.ensures.place
+    (map data_of (values_left c.self.inside)) null c.in-None.ensures
     (same_left c.self.inside c.self.invariant) in
     omega (
       arith,

@@ -1,4 +1,4 @@
-use Rattle.std.proofs.Common.{[], refl, arith, ap, length}
+use Rattle.std.proofs.Common.{[], refl, arith, ap, sym, ◌∙◌, length}
 use Rattle.dp_value.specs.Table.{IsTable, empty}
 use Rattle.dp_value.proofs.RisingLemmas.{rising-distinct}
 use Rattle.dp_value.proofs.value.Columns.new.Goals as goal
@@ -10,9 +10,12 @@ invariant_of-result c =
       up_to = λ k d h. absurd (omega (arith, h));
       light = omega arith;
     } in
-    rw (c.new.ensures) record {
-      same_length = ap length c.new-2.ensures.items;
-      nulls = tt;
-      table = none;
-      weight = refl;
+    record {
+      rows = record {
+        keys = record { within = omega arith; rises = rw c.new.ensures.items tt };
+        nulls = tt;
+        same_length = ap length c.new-2.ensures.items ∙ sym (ap length c.new.ensures.items);
+      };
+      table = rw c.new.ensures.items none;
+      weight = rw c.new.ensures.items refl;
     }

@@ -2,4 +2,4 @@ use Rattle.std.proofs.Common.{◌≡◌, take}
 use Rattle.dp_value.proofs.value.Columns.try_clone.Given as goal
 
 abbrev pub invariant-loop-value : goal.invariant-loop-value
-invariant-loop-value l = l.values.items ≡ take l.value-index l.left
+invariant-loop-value l = l.values.items ≡ take l.value-index l.rows

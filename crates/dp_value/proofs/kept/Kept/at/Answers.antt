@@ -1,0 +1,15 @@
+use Rattle.std.proofs.Common.{List, get_or, ap, ◌∙◌}
+use Rattle.dp_value.specs.declared.key.Key.{Key}
+use Rattle.dp_value.specs.inner.Left.{left}
+use Rattle.dp_value.proofs.kept.Kept.at.Goals as goal
+
+pub nth-requires-clause-within : goal.nth-requires-clause-within
+nth-requires-clause-within c = rw c.as_slice.ensures c.requires.within
+
+pub nth-requires-clause-there : goal.nth-requires-clause-there
+nth-requires-clause-there c = rw c.as_slice.ensures c.requires.there
+
+pub returns : goal.returns
+returns c =
+    c.nth.ensures
+    ∙ ap (λ (ks : List Key). get_or (left c.args.start c.args.gone ks) c.args.at c.nth.result.now) c.as_slice.ensures
