@@ -17,3 +17,4 @@ pub mod Trees
 pub mod Turns
 pub mod SearchLaws
 pub mod OutputLaws
+pub mod Runs

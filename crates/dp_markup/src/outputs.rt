@@ -1,6 +1,6 @@
 //! Where a text is put: into memory, or into a count of bytes that ends at 0.
 
-ghost use Rattle.std.specs.Prelude.{◌≡◌, None, Some, OnOk};
+ghost use Rattle.std.specs.Prelude.{◌≡◌, ◌∷◌, [], None, Some, IsTrue, OnOk};
 ghost use Rattle.dp_markup.specs.Escapes.{decimal, escaped, escaped_all, plain_or_number};
 ghost use Rattle.dp_markup.specs.Outputs.{Written, behind, is_full as full};
 ghost use Rattle.dp_markup.specs.Texts.{attribute_text};
@@ -84,14 +84,29 @@ pub fn put_attribute<O: Output>(out: &mut O, name: &[u8], value: &[u8]) -> Resul
     out.put(b"\"")
 }
 
-/// Puts bytes, each by itself or as a reference.
+/// Puts bytes, each by itself or as a reference. Those that stand for themselves are put together.
 pub fn put_escaped<O: Output>(out: &mut O, bytes: &[u8]) -> Result<(), O::Error>
     ensures { OnOk result (O.seen out.new ≡ behind (O.seen out.old) (escaped_all bytes.now)) }
 {
-    for byte in bytes {
-        put_byte(out, *byte)?;
+    let mut from = 0;
+    for at in 0..bytes.len() {
+        if !is_plain(bytes[at]) {
+            out.put(&bytes[from..at])?;
+            put_byte(out, bytes[at])?;
+            from = at + 1;
+        }
     }
-    Ok(())
+    out.put(&bytes[from..])
+}
+
+/// Whether a byte stands for itself.
+fn is_plain(byte: u8) -> bool
+    ensures { IsTrue result → escaped byte ≡ byte ∷ [] }
+{
+    match byte {
+        b'&' | b'<' | b'>' | b'"' | b'\'' => false,
+        _ => byte >= 0x20 && byte <= 0x7e,
+    }
 }
 
 /// Puts a byte by itself, or as a reference where it is no plain one.

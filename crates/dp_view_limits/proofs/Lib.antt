@@ -1,5 +1,5 @@
--- Lemmas on the texts of names, on those of properties, and on what is counted.
-pub mod NameTexts
+-- Lemmas on the lengths of names and decimals, on those of properties, and on what is left of a count.
+pub mod Lengths
+pub mod Decimals
 pub mod Written
-pub mod Steps
-pub mod Counts
+pub mod Left

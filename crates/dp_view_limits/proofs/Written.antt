@@ -1,178 +1,178 @@
--- What is put of values is the text of the properties that are shown of them.
-use Rattle.std.proofs.Common.{◌≡◌, ℕ, zero, suc, ◌-◌, ◌≢◌, min, ◌*◌, ◌+◌, List, [], ◌∷◌, ◌++◌, length, map, take, drop, codes, Option, Some, None, refl, sym, ap, ◌∙◌, append-nil, arith}
-use Rattle.std.specs.Prelude.{option_map}
+-- The sizes that are counted are the lengths of the texts that are written.
+use Rattle.std.proofs.Common.{◌≡◌, ℕ, zero, suc, ◌+◌, Bool, true, false, List, [], ◌∷◌, ◌++◌, length, map, take, not, ◌==◌, codes, Option, Some, None, refl, ap, ◌∙◌, arith, append-nil, length-append}
+use Rattle.std.specs.Prelude.{option_map, sum_by}
 use Rattle.std.specs.List.{flat_map}
 use Rattle.std.specs.Option.{option_map_or}
 use Rattle.std.specs.Fmt.{signed_decimal}
-use Rattle.std.proofs.lemmas.List.Folds.{flat_map-map}
-use Rattle.dp_markup.specs.Texts.{attribute_text, node_text, nodes_text}
+use Rattle.std.proofs.lemmas.List.Sums.{sum_by-cons}
+use Rattle.dp_markup.specs.Texts.{node_text, nodes_text}
 use Rattle.dp_packet.specs.declared.property.Property.{Property}
-use Rattle.dp_packet.specs.declared.property.ValueKind.TheVariants as kind
-use Rattle.dp_packet.specs.Parts.{Text, base64, flag, given, rest_text}
-use Rattle.dp_packet.specs.Properties.{Part, kind_attributes, property_node}
+use Rattle.dp_packet.specs.declared.property.Shape.{Shape}
+use Rattle.dp_packet.specs.Parts.{Text, base64, flag, given}
+use Rattle.dp_packet.specs.Properties.{Part, property_node}
 use Rattle.dp_packet.specs.inner.Shapes.{shape_part}
-use Rattle.dp_packet.proofs.PropertyTexts.{property_is}
-use Rattle.dp_packet.proofs.OutLaws.{words_text}
+use Rattle.dp_packet.specs.inner.Sizes.{attributes_size}
 use Rattle.dp_packet.proofs.PropertyLaws.{array_part, bool_part, int_part, null_part, text_part}
 use Rattle.dp_state.specs.declared.moments.Path.{Path}
+use Rattle.dp_state.specs.declared.vars.Slot.{Slot}
 use Rattle.dp_state.specs.Variables.{Variables}
 use Rattle.dp_value.specs.declared.key.Key.{Key}
 use Rattle.dp_value.specs.declared.value.Value.{Value}
-use Rattle.dp_value.specs.declared.value.Value.TheVariants.{Array}
-use Rattle.dp_value.specs.inner.Codes.{pairs_of-entries_of}
-use Rattle.dp_value.specs.Data.{Data, Table, null, boolean, integer, text, array, pairs_of}
+use Rattle.dp_value.specs.Data.{Data, null, boolean, integer, text, array, pairs_of}
 use Rattle.dp_value.specs.Value.{data_of}
 use Rattle.dp_view.specs.declared.paging.Paging.{Paging}
-use Rattle.dp_view.specs.Names.{entry_name, full_name, key_text, own_name, variable_name}
+use Rattle.dp_view.specs.Names.{entry_name, full_name, index_of, key_text, own_name, variable_name}
 use Rattle.dp_view.specs.Properties.{entry_property, nested, page_of, path_property, shape_of, shown, variable_path, variable_shown, variable_value}
-use Rattle.dp_view.proofs.Steps.{page_cut}
-use Rattle.dp_view_limits.specs.declared.names.FullName.{FullName}
-use Rattle.dp_view_limits.specs.declared.names.Names.{Names}
-use Rattle.dp_view_limits.specs.declared.names.OwnName.{OwnName}
-use Rattle.dp_view_limits.specs.inner.Names.{full_attribute, full_text, own_attribute, own_text}
-use Rattle.dp_view_limits.specs.inner.Texts.{content_text, entries_text, entry_text, shown_text, value_kind, variable_text}
+use Rattle.dp_view_limits.specs.Limits.{properties_size, property_size}
+use Rattle.dp_view_limits.specs.inner.Sizes.{entries_size, entry_size, full_behind, given_size, named_size, text_size, value_size, variable_size}
+use Rattle.dp_view_limits.proofs.Lengths.{property_length, text_size-append, words_length}
 
--- ---- one property
+-- ---- values
 
-names_given : (own : Option OwnName) (full : Option FullName)
-    → flat_map attribute_text (given (codes "name") (option_map own_text own)
-    ++ given (codes "fullname") (option_map full_text full))
-    ≡ own_attribute own ++ full_attribute full
-names_given None None = refl
-names_given (Some own) None = refl
-names_given None (Some full) = append-nil (attribute_text (codes "fullname", full_text full))
-names_given (Some own) (Some full) =
-    ap (λ l. attribute_text (codes "name", own_text own) ++ l)
-    (append-nil (attribute_text (codes "fullname", full_text full)))
+abbrev part_size : Part → ℕ
+part_size part = attributes_size part.0 + length (nodes_text part.1)
 
-kind_is : (p : Paging) (page : ℕ) (nest : List (Key × Data) → List Property) (d : Data)
-    → (shape_part (shape_of p page nest d)).0 ≡ kind_attributes (value_kind p page d)
-kind_is p page nest null = ap (λ (q : Part). q.0) null_part
-kind_is p page nest (boolean b) = ap (λ (q : Part). q.0) (bool_part b)
-kind_is p page nest (integer n) = ap (λ (q : Part). q.0) (int_part n)
-kind_is p page nest (text bytes) = ap (λ (q : Part). q.0) (text_part (length bytes) (take p.bytes bytes))
-kind_is p page nest (array es largest) =
-    ap (λ (q : Part). q.0)
-    (array_part (length (pairs_of es)) page p.children (nest (page_of page p.children (pairs_of es))))
+flag_size : (b : Bool) → text_size (flag b) ≡ 1
+flag_size true = refl
+flag_size false = refl
 
-content_is : (p : Paging) (page levels : ℕ) (full : Option Text) (d : Data)
-    → nodes_text (shape_part (shape_of p page (nested p levels full) d)).1 ≡ content_text p page levels full d
-content_is p page levels full null = ap (λ (q : Part). nodes_text q.1) null_part
-content_is p page levels full (boolean b) = ap (λ (q : Part). nodes_text q.1) (bool_part b) ∙ words_text (flag b)
-content_is p page levels full (integer n) =
-    ap (λ (q : Part). nodes_text q.1) (int_part n) ∙ words_text (signed_decimal n)
-content_is p page levels full (text bytes) =
-    ap (λ (q : Part). nodes_text q.1) (text_part (length bytes) (take p.bytes bytes))
-    ∙ words_text (base64 (take p.bytes bytes))
-content_is p page levels full (array es largest) =
-    ap (λ (q : Part). nodes_text q.1)
-    (array_part (length (pairs_of es)) page p.children (nested p levels full (page_of page p.children (pairs_of es))))
+shape_is : (p : Paging) (page : ℕ) (nest : List (Key × Data) → List Property) (size : List (Key × Data) → ℕ)
+    → ((es : List (Key × Data)) → properties_size (nest es) ≡ size es)
+    → (d : Data) → part_size (shape_part (shape_of p page nest d)) ≡ value_size p page size d
+shape_is p page nest size same null = ap part_size null_part
+shape_is p page nest size same (boolean b) =
+    let is = ap part_size (bool_part b) in omega (arith, is, words_length (flag b), flag_size b)
+shape_is p page nest size same (integer n) =
+    let is = ap part_size (int_part n) in omega (arith, is, words_length (signed_decimal n))
+shape_is p page nest size same (text bytes) =
+    let is = ap part_size (text_part (length bytes) (take p.bytes bytes)) in
+    omega (arith, is, words_length (base64 (take p.bytes bytes)))
+shape_is p page nest size same (array es largest) =
+    let entries = page_of page p.children (pairs_of es) in
+    let is = ap part_size (array_part (length (pairs_of es)) page p.children (nest entries)) in
+    omega (arith, is, same entries, flag_size (not (length (pairs_of es) == 0)))
 
-named_is : (p : Paging) (page levels : ℕ) (names : Names) (d : Data)
-    → node_text (property_node (record {
-      name = option_map own_text names.own;
-      fullname = option_map full_text names.full;
-      shape = shape_of p page (nested p levels (option_map full_text names.full)) d;
-    }))
-    ≡ shown_text p page levels names d
-named_is p page levels names d =
-    let full = option_map full_text names.full in
-    property_is (record {
-      name = option_map own_text names.own;
-      fullname = full;
-      shape = shape_of p page (nested p levels full) d;
-    })
-    ∙ (λ i. (codes "<property" ++ names_given names.own names.full i
-    ++ rest_text (kind_is p page (nested p levels full) d i))
-    ++ content_is p page levels full d i ++ codes "</property>")
+-- ---- names
 
--- the same of names that are known
-by_names : (p : Paging) (page levels : ℕ) (names : Names) (own full : Option Text) (d : Data)
-    → option_map own_text names.own ≡ own → option_map full_text names.full ≡ full
-    → shown_text p page levels names d
-    ≡ node_text (property_node (record {
-      name = own;
-      fullname = full;
-      shape = shape_of p page (nested p levels full) d;
-    }))
-by_names p page levels names own full d e f =
-    sym (named_is p page levels names d)
-    ∙ (λ i. node_text (property_node (record {
-      name = e i;
-      fullname = f i;
-      shape = shape_of p page (nested p levels (f i)) d;
-    })))
+given_is : (name : Text) (value : Option Text)
+    → attributes_size (given name value) ≡ given_size (4 + length name) (option_map text_size value)
+given_is name None = refl
+given_is name (Some value) = omega arith
 
-pub entry_is : (p : Paging) (levels : ℕ) (names : Names) (full : Option Text) (key : Key) (d : Data)
-    → option_map own_text names.own ≡ Some (key_text key) → option_map full_text names.full ≡ entry_name full key
-    → shown_text p 0 levels names d ≡ entry_text p levels full (key, d)
-entry_is p levels names full key d e f =
-    by_names p 0 levels names (Some (key_text key)) (entry_name full key) d e f
+sized : (name full : Option Text) (s : Shape) (size : ℕ) → part_size (shape_part s) ≡ size
+    → property_size (record { name = name; fullname = full; shape = s }) ≡ 21 + given_size 8
+    (option_map text_size name) + given_size 12 (option_map text_size full) + size
+sized name full s size is =
+    let q : Property = record { name = name; fullname = full; shape = s } in
+    omega (arith, is, property_length q, given_is (codes "name") name, given_is (codes "fullname") full)
 
-pub path_is : (id : ℕ) (p : Paging) (names : Names) (path : Path) (d : Data)
-    → option_map own_text names.own ≡ Some (own_name id path)
-    → option_map full_text names.full ≡ Some (full_name id path)
-    → shown_text p p.page p.depth names d ≡ node_text (property_node (path_property id path p d))
-path_is id p names path d e f =
-    by_names p p.page p.depth names (Some (own_name id path)) (Some (full_name id path)) d e f
+full_is : (full : Option Text) (key : Key)
+    → option_map text_size (entry_name full key) ≡ full_behind (option_map text_size full) key
+full_is None key = refl
+full_is (Some name) key = ap (λ n. Some n) (text_size-append name (index_of key))
 
-pub variable_is : (id : ℕ) (p : Paging) (names : Names) (name : Text) (d : Data)
-    → option_map own_text names.own ≡ Some (variable_name id name)
-    → option_map full_text names.full ≡ Some (variable_name id name)
-    → shown_text p p.page p.depth names d ≡ node_text (property_node (path_property id (variable_path name) p d))
-variable_is id p names name d e f =
-    path_is id p names (variable_path name) d e (f ∙ ap (λ l. Some l) (sym (append-nil (variable_name id name))))
+-- ---- entries
 
-pub shown_is : (p : Paging) (d : Data)
-    → shown_text p p.page p.depth (record { own = None; full = None }) d ≡ node_text (property_node (shown p d))
-shown_is p d = by_names p p.page p.depth (record { own = None; full = None }) None None d refl refl
+module _ (p : Paging) (levels : ℕ) (below : (full : Option Text) (es : List (Key × Data))
+    → properties_size (nested p levels full es) ≡ entries_size p levels (option_map text_size full) es) where
+  entry_is : (full : Option Text) (e : Key × Data)
+      → property_size (entry_property p (nested p levels) full e) ≡ entry_size p (entries_size p levels)
+      (option_map text_size full) e
+  entry_is full e =
+      let name = entry_name full e.0 in
+      let size = option_map text_size name in
+      let whole = sized (Some (key_text e.0)) name (shape_of p 0 (nested p levels name) e.1)
+      (value_size p 0 (entries_size p levels size) e.1)
+      (shape_is p 0 (nested p levels name) (entries_size p levels size) (below name) e.1) in
+      let count : 21 + (8 + text_size (key_text e.0)) + given_size 12 size + value_size p 0
+      (entries_size p levels size) e.1
+      ≡ 29 + text_size (key_text e.0) + given_size 12 size + value_size p 0 (entries_size p levels size) e.1 =
+      omega arith in
+      whole ∙ count
+      ∙ ap (λ (o : Option ℕ). 29 + text_size (key_text e.0) + given_size 12 o + value_size p 0
+      (entries_size p levels o) e.1) (full_is full e.0)
 
--- ---- arrays
+  entries_are : (full : Option Text) (es : List (Key × Data))
+      → properties_size (map (entry_property p (nested p levels) full) es) ≡ sum_by
+      (entry_size p (entries_size p levels) (option_map text_size full)) es
+  entries_are full [] = refl
+  entries_are full (e ∷ es) =
+      let q = entry_property p (nested p levels) full e in
+      omega (
+        arith,
+        length-append (node_text (property_node q)) (nodes_text
+            (map property_node (map (entry_property p (nested p levels) full) es))),
+        entry_is full e,
+        entries_are full es,
+        sum_by-cons (entry_size p (entries_size p levels) (option_map text_size full)) e es,
+      )
 
-pub array_kind : (p : Paging) (page : ℕ) (t : Table)
-    → kind.Array (length t.pairs) page p.children ≡ value_kind p page (data_of (Array t))
-array_kind p page t =
-    ap (λ (ps : List (Key × Data)). kind.Array (length ps) page p.children) (sym (pairs_of-entries_of t.pairs))
+nested_are : (p : Paging) (levels : ℕ) (full : Option Text) (es : List (Key × Data))
+    → properties_size (nested p levels full es) ≡ entries_size p levels (option_map text_size full) es
+nested_are p zero full es = refl
+nested_are p (suc levels) full es = entries_are p levels (nested_are p levels) full es
 
-pub array_content : (p : Paging) (page levels : ℕ) (full : Option Text) (t : Table)
-    → nodes_text (map property_node (nested p levels full (page_of page p.children t.pairs)))
-    ≡ content_text p page levels full (data_of (Array t))
-array_content p page levels full t =
-    ap (λ (ps : List (Key × Data)). nodes_text (map property_node (nested p levels full (page_of page p.children ps))))
-    (sym (pairs_of-entries_of t.pairs))
+-- ---- properties
 
-one_deeper : (p : Paging) (levels : ℕ) (full : Option Text) (es : List (Key × Data)) → levels ≢ 0
-    → entries_text p (levels - 1) full es ≡ nodes_text (map property_node (nested p levels full es))
-one_deeper p zero full es some = absurd (some refl)
-one_deeper p (suc levels) full es some =
-    let less : suc levels - 1 ≡ levels = omega arith in
-    let made = entry_property p (nested p levels) full in
-    ap (λ n. entries_text p n full es) less
-    ∙ sym (flat_map-map node_text property_node (map made es)
-    ∙ flat_map-map (λ (q : Property). node_text (property_node q)) made es)
+named_is : (p : Paging) (name full : Option Text) (d : Data)
+    → property_size (record { name = name; fullname = full; shape = shape_of p p.page (nested p p.depth full) d })
+    ≡ named_size p (option_map text_size name) (option_map text_size full) d
+named_is p name full d =
+    let size = entries_size p p.depth (option_map text_size full) in
+    sized name full (shape_of p p.page (nested p p.depth full) d) (value_size p p.page size d)
+    (shape_is p p.page (nested p p.depth full) size (nested_are p p.depth full) d)
 
-pub page_is : (p : Paging) (page levels : ℕ) (full : Option Text) (es : List (Key × Data)) (start end : ℕ) → levels ≢ 0
-    → start ≡ min (page * p.children) (length es) → end ≡ min (start + p.children) (length es)
-    → entries_text p (levels - 1) full (drop start (take end es))
-    ≡ nodes_text (map property_node (nested p levels full (page_of page p.children es)))
-page_is p page levels full es start end some s e =
-    ap (entries_text p (levels - 1) full) (page_cut page p.children start end es s e)
-    ∙ one_deeper p levels full (page_of page p.children es) some
+pub shown_is : (p : Paging) (d : Data) → property_size (shown p d) ≡ named_size p None None d
+shown_is p d = named_is p None None d
+
+pub path_is : (id : ℕ) (path : Path) (p : Paging) (d : Data)
+    → property_size (path_property id path p d) ≡ named_size p (Some (text_size (own_name id path)))
+    (Some (text_size (full_name id path))) d
+path_is id path p d = named_is p (Some (own_name id path)) (Some (full_name id path)) d
 
 -- ---- variables
 
-pub variables_are : (id : ℕ) (p : Paging) (globals variables : Variables)
-    → nodes_text (map property_node (flat_map (variable_shown id p globals) variables))
-    ≡ flat_map (variable_text id p globals) variables
-variables_are id p globals [] = refl
-variables_are id p globals (v ∷ variables) = by (variable_value globals v) (variables_are id p globals variables) where
+variable_is : (id : ℕ) (name : Text) (p : Paging) (d : Data)
+    → property_size (path_property id (variable_path name) p d) ≡ named_size p
+    (Some (text_size (variable_name id name))) (Some (text_size (variable_name id name))) d
+variable_is id name p d =
+    path_is id (variable_path name) p d
+    ∙ ap (λ (full : Text). named_size p (Some (text_size (variable_name id name))) (Some (text_size full)) d)
+    (append-nil (variable_name id name))
+
+sizes_append : (a b : List Property) → properties_size (a ++ b) ≡ properties_size a + properties_size b
+sizes_append [] b = omega arith
+sizes_append (q ∷ a) b =
+    omega (
+      arith,
+      length-append (node_text (property_node q)) (nodes_text (map property_node (a ++ b))),
+      length-append (node_text (property_node q)) (nodes_text (map property_node a)),
+      sizes_append a b,
+    )
+
+one_is : (q : Property) → properties_size (q ∷ []) ≡ property_size q
+one_is q = ap length (append-nil (node_text (property_node q)))
+
+shown_variable : (id : ℕ) (p : Paging) (globals : Variables) (v : Text × Slot)
+    → properties_size (variable_shown id p globals v) ≡ variable_size id p globals v
+shown_variable id p globals v = by (variable_value globals v) where
   by : (o : Option Value)
-      → nodes_text (map property_node (flat_map (variable_shown id p globals) variables))
-      ≡ flat_map (variable_text id p globals) variables
-      → nodes_text (map property_node (option_map_or (λ w. path_property id (variable_path v.0) p (data_of w) ∷ [])
-      o [] ++ flat_map (variable_shown id p globals) variables))
-      ≡ option_map_or (λ w. node_text (property_node (path_property id (variable_path v.0) p (data_of w)))) o []
-      ++ flat_map (variable_text id p globals) variables
-  by None more = more
-  by (Some value) more =
-      ap (λ l. node_text (property_node (path_property id (variable_path v.0) p (data_of value))) ++ l) more
+      → properties_size (option_map_or (λ value. path_property id (variable_path v.0) p (data_of value) ∷ []) o [])
+      ≡ option_map_or (λ value. named_size p (Some (text_size (variable_name id v.0)))
+      (Some (text_size (variable_name id v.0))) (data_of value)) o 0
+  by None = refl
+  by (Some value) =
+      one_is (path_property id (variable_path v.0) p (data_of value)) ∙ variable_is id v.0 p (data_of value)
+
+pub variables_are : (id : ℕ) (p : Paging) (globals variables : Variables)
+    → properties_size (flat_map (variable_shown id p globals) variables)
+    ≡ sum_by (variable_size id p globals) variables
+variables_are id p globals [] = refl
+variables_are id p globals (v ∷ variables) =
+    omega (
+      arith,
+      sizes_append (variable_shown id p globals v) (flat_map (variable_shown id p globals) variables),
+      shown_variable id p globals v,
+      variables_are id p globals variables,
+      sum_by-cons (variable_size id p globals) v variables,
+    )

@@ -1,5 +1,4 @@
--- The texts of names and of properties, as the functions inside the crate put them. No clause of a
--- public call speaks of it.
-pub mod Names
-pub mod Texts
+-- The sizes of names and of properties, as the functions inside the crate count them. No clause of
+-- a public call speaks of it.
+pub mod Sizes
 pub mod AtPaths

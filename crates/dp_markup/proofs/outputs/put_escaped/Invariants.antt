@@ -1,9 +1,10 @@
-use Rattle.std.proofs.Common.{◌≡◌, drop}
+use Rattle.std.proofs.Common.{◌≡◌, ◌≤◌, ◌-◌, ◌++◌, drop, take}
 use Rattle.dp_markup.specs.Escapes.{escaped_all}
 use Rattle.dp_markup.specs.Outputs.{behind}
 use Rattle.dp_markup.proofs.outputs.put_escaped.Given as goal
 
-abbrev pub invariant-loop-byte : goal.invariant-loop-byte
-invariant-loop-byte g l =
-    behind (g.O.Output.seen l.fn.out) (escaped_all l.bytes)
-    ≡ behind (g.O.Output.seen l.out) (escaped_all (drop l.byte-index l.bytes))
+abbrev pub invariant-loop-at : goal.invariant-loop-at
+invariant-loop-at g l =
+    (l.from ≤ l.at)
+    × (behind (g.O.Output.seen l.fn.out) (escaped_all l.bytes)
+    ≡ behind (g.O.Output.seen l.out) (take (l.at - l.from) (drop l.from l.bytes) ++ escaped_all (drop l.at l.bytes)))
