@@ -25,8 +25,8 @@ const DEEP_SIZE: usize = 2 << 30;
 /// How many seconds a link that an engine makes may be silent before its first byte.
 const FIRST_BYTE_SECONDS: u64 = 30;
 
-/// How many smaller sizes are tried, down to some 206 MiB: each is a thirty-second less than the one before.
-const SMALLER_SIZES: u32 = 116;
+/// How many smaller sizes are tried, down to some 66 MiB: each is a thirty-second less than the one before.
+const SMALLER_SIZES: u32 = 152;
 
 /// The words of the command line, without the program's name. Where the system does not give them as text there are
 /// none, and none ask for anything.

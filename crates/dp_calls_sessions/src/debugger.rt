@@ -1,6 +1,6 @@
 //! Calls of the crates of the debugger, over a program that has come to a moment.
 
-use crate::states::{int_in, int_of};
+use crate::states::{Meant, int_in, int_of};
 use dp_break::Breaks;
 use dp_command::{Addressee, LookRequest, WriteRequest};
 use dp_features::Features;
@@ -95,10 +95,10 @@ pub(crate) fn dp_write_commands(
     let features = Features::new();
     let to = Addressee::nobody(alloc);
     let name = Bytes::from_slice(alloc, b"x")?;
-    // call
+    // call: `Meant` is an `Evaluator` that calls `evaluation` of dp_meaning
     let expression = Bytes::from_slice(alloc, b"$x = 7")?;
     let request = WriteRequest::Eval { expression };
-    let written = write_response(alloc, bundle, &features, state, &to, &request)?;
+    let written = write_response::<Meant>(alloc, bundle, &features, state, &to, &request)?;
     // end
     drop(written);
     let int = int_in(state.read(&name));

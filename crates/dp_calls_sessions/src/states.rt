@@ -1,10 +1,27 @@
 //! The program of the calls, and what its values are.
 
+use dp_meaning::evaluation;
 use dp_packet::{Property, Shape};
 use dp_parse::{ParseError, parse_file};
-use dp_tree::{Bundle, BundleFile, Files};
+use dp_state::State;
+use dp_tree::{Bundle, BundleFile, Expression, Files};
 use dp_value::{Bytes, Items, Memory, Value};
+use dp_write_commands::Evaluator;
 use std::alloc::Global;
+
+/// Evaluates by the meaning's evaluator.
+pub(crate) struct Meant;
+
+impl Evaluator for Meant {
+    fn evaluation(
+        alloc: Global,
+        bundle: &Bundle,
+        e: &Expression,
+        state: &State,
+    ) -> Result<(Option<Value>, State), Memory> {
+        evaluation(alloc, bundle, e, state)
+    }
+}
 
 /// A program of this file.
 fn of_file(alloc: Global, file: BundleFile) -> Result<Bundle, Memory> {

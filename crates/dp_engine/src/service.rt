@@ -64,7 +64,7 @@ fn left(session: Session<'_>, end: ServeEnd) -> Served
 }
 
 /// Runs the program on to its end, once the session is over.
-fn run_on<E: Sink, L: Ledger>(
+fn finish<E: Sink, L: Ledger>(
     session: Session<'_>,
     end: ServeEnd,
     out: &mut E,
@@ -106,19 +106,19 @@ pub fn close<E: Sink, L: Ledger>(
 {
     match over {
         SessionOver::Ended(SessionEnd::Killed) => left(session, ServeEnd::Stopped),
-        SessionOver::Ended(SessionEnd::Detached) => run_on(session, ServeEnd::Detached, out, steps),
-        SessionOver::Ended(SessionEnd::Finished(_)) => run_on(
+        SessionOver::Ended(SessionEnd::Detached) => finish(session, ServeEnd::Detached, out, steps),
+        SessionOver::Ended(SessionEnd::Finished(_)) => finish(
             session,
             ServeEnd::Stopped,
             out,
             steps,
         ),
-        SessionOver::LinkEnd => run_on(session, ServeEnd::LinkEnd, out, steps),
-        SessionOver::ReadFault => run_on(session, ServeEnd::ReadFault, out, steps),
+        SessionOver::LinkEnd => finish(session, ServeEnd::LinkEnd, out, steps),
+        SessionOver::ReadFault => finish(session, ServeEnd::ReadFault, out, steps),
         SessionOver::BadCommandFrame { offset } => {
-            run_on(session, ServeEnd::BadCommandFrame { offset }, out, steps)
+            finish(session, ServeEnd::BadCommandFrame { offset }, out, steps)
         }
-        SessionOver::ByteLimit => run_on(session, ServeEnd::ByteLimit, out, steps),
+        SessionOver::ByteLimit => finish(session, ServeEnd::ByteLimit, out, steps),
     }
 }
 
@@ -139,7 +139,7 @@ pub fn close_cut<E: Sink, L: Ledger>(
 {
     match fault {
         Fault::Write(Some(SessionEnd::Killed)) => left(session, ServeEnd::WriteFault),
-        Fault::Write(_) => run_on(session, ServeEnd::WriteFault, out, steps),
+        Fault::Write(_) => finish(session, ServeEnd::WriteFault, out, steps),
         Fault::Out => left(session, ServeEnd::OutFault),
         Fault::Memory => left(session, ServeEnd::Memory),
     }

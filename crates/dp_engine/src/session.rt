@@ -347,7 +347,7 @@ impl<'a> Session<'a> {
     }
 
     /// Goes on to the next stop or to the end. The hits on the way are counted, and a step for each moment.
-    pub(crate) fn run_on<L: Ledger>(
+    pub(crate) fn go_on_to_stop<L: Ledger>(
         &mut self,
         mode: Continuation,
         steps: &mut Steps<L>,

@@ -297,7 +297,7 @@ impl<'a> Session<'a> {
         ensures turn { IfOk result (IsTurn (spec.advanced to.now.command to.now.id mode self.old) self.new) }
         ensures steps { IfOk result (λ turn. steps.new ≡ steps.old + steps_between self.old self.new) }
     {
-        self.run_on(mode, steps)?;
+        self.go_on_to_stop(mode, steps)?;
         tell_status(alloc, to, self.position)
     }
 }

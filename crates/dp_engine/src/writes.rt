@@ -8,10 +8,26 @@ use dp_features::Features;
 use dp_meaning::NumberedWrite;
 use dp_packet::Response;
 use dp_state::State;
-use dp_tree::Bundle;
+use dp_step::evaluation;
+use dp_tree::{Bundle, Expression};
+use dp_value::{Memory, Value};
 use dp_view_commands::ViewError;
-use dp_write_commands::{Written, write_response};
+use dp_write_commands::{Evaluator, Written, write_response};
 use std::alloc::Global;
+
+/// Evaluates by small steps, so that calls within calls take no more of the stack.
+struct Stepped;
+
+impl Evaluator for Stepped {
+    fn evaluation(
+        alloc: Global,
+        bundle: &Bundle,
+        e: &Expression,
+        state: &State,
+    ) -> Result<(Option<Value>, State), Memory> {
+        evaluation(alloc, bundle, e, state)
+    }
+}
 
 /// Puts a write behind others, where there is room for it.
 fn keep(writes: &mut Vec<NumberedWrite>, write: NumberedWrite)
@@ -44,7 +60,7 @@ pub(crate) fn accept(
     if writes.reserve(1).is_err() {
         return Err(ViewError::Memory);
     }
-    match write_response(alloc, bundle, features, program, to, request) {
+    match write_response::<Stepped>(alloc, bundle, features, program, to, request) {
         Ok(Written { response, write }) => {
             keep(writes, NumberedWrite { moment, write });
             Ok(response)

@@ -31,7 +31,7 @@ use Rattle.dp_meaning.proofs.WrittenMoments.{moments-written}
 use Rattle.dp_step_parts.specs.declared.work.Given.TheVariants as given
 use Rattle.dp_step_parts.specs.declared.work.Hand.TheVariants as part
 use Rattle.dp_step_parts.specs.Rest.{to_signal}
-use Rattle.dp_step.specs.declared.machine.Arrival.TheVariants as arrival
+use Rattle.dp_step.specs.declared.machine.Came.TheVariants as came
 use Rattle.dp_step.specs.declared.machine.Machine.{Machine}
 use Rattle.dp_step.specs.declared.machine.Progress.TheVariants as progress
 use Rattle.dp_step_statements.specs.declared.work.Hand.{Hand}
@@ -39,7 +39,7 @@ use Rattle.dp_step_statements.specs.declared.work.Head.{Head}
 use Rattle.dp_step_statements.specs.declared.work.Turns.{Turns}
 use Rattle.dp_step_statements.specs.declared.work.Hand.TheVariants as hand
 use Rattle.dp_step.specs.inner.Leaps.{HasRun, Leaps, LeapsBy, RunsOut, driven, part_with}
-use Rattle.dp_step.specs.inner.Moves.{Comes, Goes, IsOver, follows_of, rest_with, setting_at}
+use Rattle.dp_step.specs.inner.Moves.{Comes, IsOver, Moves, follows_of, rest_with, setting_at}
 use Rattle.dp_step_statements.specs.Rest.{after_of, tests_of}
 use Rattle.dp_step.specs.Stands.{NoneAbove, StandsFor, rest_of}
 use Rattle.dp_step.proofs.Smalls.{rest-by}
@@ -126,18 +126,17 @@ over-stops n (Over p s) o t h = λ i. stop.Ended (sym h.0 i) (sym h.1 i)
 over-stops n (At kind line s go) o t h = absurd h
 
 module _ (old mid : Machine) (run : Run Signal) where
-  pub small-on : Goes old run None mid → Leaps old run None mid
-  small-on goes = record {
-    by = ap (drive (only_bounded old.bound)) goes.by ∙ ap (λ (n : ℕ). drive (only_bounded n) (rest_of mid mid.state))
-        (sym goes.same_bound);
-    same_bound = goes.same_bound;
+  pub small-on : Moves old run came.On mid → Leaps old run None mid
+  small-on moves = record {
+    by = ap (drive (only_bounded old.bound)) moves.by ∙ ap (λ (n : ℕ). drive (only_bounded n) (rest_of mid mid.state))
+        (sym moves.same_bound);
+    same_bound = moves.same_bound;
   }
 
-  pub small-over : (o : Outcome) → Goes old run (Some (arrival.End o)) mid → Leaps old run (Some o) mid
-  small-over o goes = record { by = over-stops old.bound run o mid.state goes.by; same_bound = goes.same_bound }
+  pub small-over : (o : Outcome) → IsOver run o mid.state → mid.bound ≡ old.bound → Leaps old run (Some o) mid
+  small-over o over bound = record { by = over-stops old.bound run o mid.state over; same_bound = bound }
 
-  module _ (kind : MomentKind) (line : ℕ) (new : Machine) (goes : Goes old run (Some
-      (arrival.Moment kind line)) mid) where
+  module _ (kind : MomentKind) (line : ℕ) (new : Machine) (goes : Moves old run (came.Moment kind line) mid) where
     at-moment : driven old run ≡ drive (only_bounded mid.bound) (At kind line mid.state (rest_of mid))
     at-moment = λ i. drive (only_bounded (sym goes.same_bound i)) (goes.by i)
 

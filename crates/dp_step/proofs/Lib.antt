@@ -6,6 +6,9 @@ pub mod WritesMade
 pub mod WriteLaws
 pub mod LastMoments
 pub mod LeapLaws
+pub mod ApartLaws
 pub mod PassedRuns
 pub mod PassedSteps
 pub mod PassedWays
+pub mod LastStatements
+pub mod TurnSteps

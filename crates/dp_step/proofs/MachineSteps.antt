@@ -1,7 +1,7 @@
 -- A step of a machine is a step of the program that it stands for.
 use Rattle.std.proofs.Common.{◌≡◌, ℕ, zero, suc, ◌<◌, false, List, [], ◌∷◌, Option, Some, None, refl, sym, ap, ◌∙◌, subst, arith}
 use Rattle.std.proofs.lemmas.Bool.{ne_eqb}
-use Rattle.std.specs.Prelude.{nat_eq, option_map, Ok, Err, slice_get}
+use Rattle.std.specs.Prelude.{nat_eq, option_map, slice_get}
 use Rattle.dp_tree.specs.declared.bundle.Bundle.{Bundle}
 use Rattle.dp_state.specs.declared.moments.Moment.{Moment}
 use Rattle.dp_state.specs.declared.state.State.{State}
@@ -20,16 +20,13 @@ use Rattle.dp_meaning.specs.Trace.{Trace, outcome_of, program_trace, trace}
 use Rattle.dp_meaning.specs.Writes.{Writes, written, written_by, writes_of}
 use Rattle.dp_meaning.proofs.Steady.{IsSteady, steady-program}
 use Rattle.dp_actions.proofs.Runs.{and_then-Done}
-use Rattle.dp_actions.specs.declared.halt.Halt.{Halt}
-use Rattle.dp_actions.specs.declared.halt.Halt.TheVariants as halt
-use Rattle.dp_step.specs.declared.machine.Arrival.{Arrival}
 use Rattle.dp_step.specs.declared.machine.Arrival.TheVariants as arrival
 use Rattle.dp_step.specs.declared.machine.Machine.{Machine}
 use Rattle.dp_step.specs.declared.machine.Progress.{Progress}
 use Rattle.dp_step.specs.declared.machine.Progress.TheVariants as progress
 use Rattle.dp_step_parts.specs.Rest.{to_signal}
 use Rattle.dp_step.specs.Stands.{ComesTo, EndsWith, GoesOn, NoneAbove, StandsFor, pending_rest, rest_of}
-use Rattle.dp_step.specs.inner.Moves.{Arrives, Comes, Goes, GoesBy, IsEnd, IsOver, Moves, arrived_at}
+use Rattle.dp_step.specs.inner.Moves.{Arrives, Comes, IsOver}
 use Rattle.dp_step.proofs.Courses.{first-following, first-moment, goes_past, none-in-bound}
 
 -- the member of a list whose image is there
@@ -181,28 +178,3 @@ starts bundle bound m same limit state rest = record {
 pub all-done : (bundle : Bundle) (bound depth : ℕ) (r : Run Signal)
     → and_then r (to_signal (pending_rest bundle bound depth [])) ≡ r
 all-done bundle bound depth r = and_then-Done r
-
--- a small step, by the moment or the end to which it came
-pub goes-by : (old new : Machine) (run : Run Signal) (moment : Option (MomentKind × ℕ)) (came : Option Arrival)
-    → came ≡ option_map arrived_at moment
-    → Moves old run (Ok moment) new → Goes old run came new
-goes-by old new run None came e h = record {
-  by = subst (λ (o : Option Arrival). GoesBy run o new) (sym e) h.by;
-  same_bundle = h.same_bundle;
-  same_bound = h.same_bound;
-}
-goes-by old new run (Some m) came e h = record {
-  by = subst (λ (o : Option Arrival). GoesBy run o new) (sym e) h.by;
-  same_bundle = h.same_bundle;
-  same_bound = h.same_bound;
-}
-
-pub goes-end : (old new : Machine) (run : Run Signal) (why : Halt) (came : Option Arrival) → IsEnd why came
-    → Moves old run (Err why) new → Goes old run came new
-goes-end old new run (halt.Finished o) came e h = record {
-  by = subst (λ (o : Option Arrival). GoesBy run o new) (sym e) h.by;
-  same_bundle = h.same_bundle;
-  same_bound = h.same_bound;
-}
-goes-end old new run halt.Memory came e h = absurd e
-goes-end old new run (halt.Stopped at) came e h = absurd e

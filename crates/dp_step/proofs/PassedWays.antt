@@ -1,8 +1,10 @@
 -- What a machine does on its way past moments.
-use Rattle.std.proofs.Common.{◌≡◌, ℕ, ◌+◌, Bool, is_some, List, [], Option, Some, None, Ok, Err, refl, sym, ap, ◌∙◌, subst}
+use Rattle.std.proofs.Common.{◌≡◌, ℕ, ◌+◌, Bool, is_some, List, [], Option, Ok, Err, refl, sym, ap, ◌∙◌, subst}
 use Rattle.dp_tree.specs.declared.tree.Statement.{Statement}
 use Rattle.dp_state.specs.declared.moments.Outcome.{Outcome}
+use Rattle.dp_state.specs.declared.moments.Outcome.TheVariants as way
 use Rattle.dp_state.specs.declared.state.State.{State}
+use Rattle.dp_actions.specs.declared.halt.Halt.{Halt}
 use Rattle.dp_actions.specs.declared.halt.Halt.TheVariants as halt
 use Rattle.dp_actions.specs.declared.signal.Signal.{Signal}
 use Rattle.dp_actions.specs.Run.{Run, Done, Over, At, ◌>>=◌}
@@ -16,14 +18,16 @@ use Rattle.dp_step_parts.specs.Rest.{to_signal}
 use Rattle.dp_step_statements.specs.declared.work.Hand.TheVariants as hand
 use Rattle.dp_step.specs.declared.machine.Arrival.{Arrival}
 use Rattle.dp_step.specs.declared.machine.Arrival.TheVariants as arrival
+use Rattle.dp_step.specs.declared.machine.Came.{Came}
+use Rattle.dp_step.specs.declared.machine.Came.TheVariants as step
 use Rattle.dp_step.specs.declared.machine.Machine.{Machine}
 use Rattle.dp_step.specs.inner.Leaps.{whole_of}
-use Rattle.dp_step.specs.inner.Moves.{Goes, IsOver, follows_of, setting_at}
+use Rattle.dp_step.specs.inner.Moves.{IsOver, Moves, came_of, follows_of, setting_at}
 use Rattle.dp_step.specs.inner.Passing.{Approaches, IsInHand, IsOverBy, LeadsTo, Nears, NearsBy, Passes}
 use Rattle.dp_step.specs.Stands.{rest_of}
 use Rattle.dp_quiet.specs.Quiet.{AreLoud, OnFree}
 use Rattle.dp_step.proofs.PassedRuns.{ends, gives, passes-on}
-use Rattle.dp_step.proofs.Smalls.{rest-by}
+use Rattle.dp_step.proofs.Smalls.{done-is, over-is, rest-by}
 
 -- ---- a statement that was in hand
 
@@ -62,7 +66,7 @@ module _ (lines : List ℕ) (names : Option (List (List ℕ))) (old : Machine) (
         same_bound = bound;
       }
 
-  pub quiet-over : (o : Outcome) (new : Machine)
+  quiet-over : (o : Outcome) (new : Machine)
       → RunsWhole (whole_of old) (statement_run statement) (Err (halt.Finished o)) old.state new.state
       → new.bundle.now ≡ old.bundle.now → new.bound ≡ old.bound
       → Approaches lines calls old (arrival.End o) new
@@ -78,6 +82,19 @@ module _ (lines : List ℕ) (names : Option (List (List ℕ))) (old : Machine) (
         same_bound = bound;
       }
 
+  pub quiet-off : (why : Halt) (came : Came) (new : Machine) → came ≡ came_of why
+      → RunsWhole (whole_of old) (statement_run statement) (Err why) old.state new.state
+      → new.bundle.now ≡ old.bundle.now → new.bound ≡ old.bound
+      → Nears lines calls old came new
+  quiet-off why came new is ran bundle bound =
+      subst (λ (c : Came). Nears lines calls old c new) (sym is) (by why ran)
+    where
+      by : (why : Halt) → RunsWhole (whole_of old) (statement_run statement) (Err why) old.state new.state
+          → Nears lines calls old (came_of why) new
+      by halt.Memory ran = tt
+      by (halt.Finished o) ran = quiet-over o new ran bundle bound
+      by (halt.Stopped at) ran = tt
+
 module _ (lines : List ℕ) (calls : Bool) where
   -- ---- a small step
 
@@ -86,30 +103,36 @@ module _ (lines : List ℕ) (calls : Bool) where
   over-by bound (Over p s) o t h = h
   over-by bound (At kind line s go) o t h = absurd h
 
-  pub small-nears : (old new : Machine) (came : Option Arrival) → Goes old (rest_of old old.state) came new
+  there : (old new : Machine) (at : Arrival) → LeadsTo old.bound (rest_of old old.state) at new
+      → new.bundle.now ≡ old.bundle.now → new.bound ≡ old.bound → Approaches lines calls old at new
+  there old new at leads bundle bound = record {
+    over = 0;
+    later = rest_of old old.state;
+    passes = refl;
+    leads = leads;
+    same_bundle = bundle;
+    same_bound = bound;
+  }
+
+  pub small-nears : (old new : Machine) (came : Came) → Moves old (rest_of old old.state) came new
       → Nears lines calls old came new
-  small-nears old new None goes = record {
+  small-nears old new step.On moves = record {
     over = 0;
-    passes = goes.by;
-    same_bundle = goes.same_bundle;
-    same_bound = goes.same_bound;
+    passes = moves.by;
+    same_bundle = moves.same_bundle;
+    same_bound = moves.same_bound;
   }
-  small-nears old new (Some (arrival.Moment kind line)) goes = record {
-    over = 0;
-    later = rest_of old old.state;
-    passes = refl;
-    leads = goes.by;
-    same_bundle = goes.same_bundle;
-    same_bound = goes.same_bound;
-  }
-  small-nears old new (Some (arrival.End o)) goes = record {
-    over = 0;
-    later = rest_of old old.state;
-    passes = refl;
-    leads = over-by old.bound (rest_of old old.state) o new.state goes.by;
-    same_bundle = goes.same_bundle;
-    same_bound = goes.same_bound;
-  }
+  small-nears old new (step.Moment kind line) moves =
+      there old new (arrival.Moment kind line) moves.by moves.same_bundle moves.same_bound
+  small-nears old new step.Done moves =
+      there old new (arrival.End way.Done)
+      (over-by old.bound (rest_of old old.state) way.Done new.state (done-is _ new moves.by))
+      moves.same_bundle moves.same_bound
+  small-nears old new (step.Over o) moves =
+      there old new (arrival.End o)
+      (over-by old.bound (rest_of old old.state) o new.state (over-is _ o new.state moves.by))
+      moves.same_bundle moves.same_bound
+  small-nears old new step.Failed moves = tt
 
   -- ---- one after the other
 

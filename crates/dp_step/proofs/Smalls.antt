@@ -1,5 +1,5 @@
 -- A small step of a machine, by what it does with the pending work.
-use Rattle.std.proofs.Common.{◌≡◌, Bool, ℕ, ◌-◌, List, [], ◌∷◌, ◌++◌, reverse, Option, Some, None, Result, Ok, Err, refl, sym, ap, ◌∙◌, subst}
+use Rattle.std.proofs.Common.{◌≡◌, Bool, ℕ, ◌-◌, List, [], ◌∷◌, ◌++◌, reverse, Option, Some, None, Ok, Err, refl, sym, ap, ◌∙◌, subst}
 use Rattle.std.proofs.lemmas.List.{reverse-append}
 use Rattle.dp_tree.specs.declared.bundle.Bundle.{Bundle}
 use Rattle.dp_tree.specs.declared.tree.Function.{Function}
@@ -20,23 +20,27 @@ use Rattle.dp_actions.specs.AtOnce.{AtOnce}
 use Rattle.dp_meaning.specs.Programs.{setting_of}
 use Rattle.dp_actions.specs.Bodies.{leaving, left_file}
 use Rattle.dp_actions.specs.Bodies.{statements_of}
-use Rattle.dp_actions.specs.Run.{Run, Over, At, and_then, taken, ◌>>=◌}
+use Rattle.dp_actions.specs.Run.{Run, Done, Over, At, and_then, taken, ◌>>=◌}
 use Rattle.dp_actions.specs.Setting.{Setting}
 use Rattle.dp_actions.specs.Statements.{body_run}
 use Rattle.dp_meaning.proofs.CallLaws.{file-is, suc-call, suc-include, zero-call, zero-include}
 use Rattle.dp_actions.proofs.Runs.{and_then-assoc, and_then-same}
+use Rattle.dp_step.specs.declared.machine.Came.{Came}
+use Rattle.dp_step.specs.declared.machine.Came.TheVariants as step
 use Rattle.dp_step.specs.declared.machine.Machine.{Machine}
 use Rattle.dp_step_parts.specs.declared.work.Given.{Given}
 use Rattle.dp_step_parts.specs.declared.work.Given.TheVariants as given
+use Rattle.dp_step_parts.specs.declared.work.Hand.TheVariants as part
 use Rattle.dp_step_statements.specs.declared.work.Hand.{Hand}
+use Rattle.dp_step_statements.specs.declared.work.Hand.TheVariants as hand
 use Rattle.dp_step_statements.specs.declared.work.Small.{Small}
 use Rattle.dp_step_statements.specs.declared.work.Waiting.{Waiting}
 use Rattle.dp_step_statements.specs.declared.work.Waiting.TheVariants as waiting
 use Rattle.dp_step_statements.specs.Rest.{behind, hand_rest, next_rest, small_rest, waiting_rest}
 use Rattle.dp_step_parts.specs.Rest.{Follows, to_signal, to_value}
-use Rattle.dp_step.specs.Stands.{depth_after, pending_rest, rest_of}
+use Rattle.dp_step.specs.Stands.{depth_after, pending_rest, rest_of, signal_of}
 use Rattle.dp_step_statements.specs.Goes.{Goes}
-use Rattle.dp_step.specs.inner.Moves.{IsOver, Moves, MovesBy, body_with, ends_call, file_with, follows_of, leave_if, rest_with, setting_at, small_with}
+use Rattle.dp_step.specs.inner.Moves.{IsDone, IsOver, Moves, MovesBy, body_with, came_of, came_to, ends_call, file_with, follows_of, leave_if, rest_with, setting_at, small_with}
 
 -- ---- the innermost item
 
@@ -68,11 +72,11 @@ rest-by m bundle bound depth h items b n d e l s =
 
 -- ---- a run that is the same
 
-pub moves_as : (old mid new : Machine) (run same : Run Signal) (result : Result (Option (MomentKind × ℕ)) Halt)
-    → run ≡ same → mid.bundle.now ≡ old.bundle.now → mid.bound ≡ old.bound → Moves mid same result new
-    → Moves old run result new
-moves_as old mid new run same result e bundle bound moves = record {
-  by = subst (λ r. MovesBy r result new) (sym e) moves.by;
+pub moves_as : (old mid new : Machine) (run same : Run Signal) (came : Came)
+    → run ≡ same → mid.bundle.now ≡ old.bundle.now → mid.bound ≡ old.bound → Moves mid same came new
+    → Moves old run came new
+moves_as old mid new run same came e bundle bound moves = record {
+  by = subst (λ r. MovesBy r came new) (sym e) moves.by;
   same_bundle = moves.same_bundle ∙ bundle;
   same_bound = moves.same_bound ∙ bound;
 }
@@ -81,23 +85,28 @@ moves_as old mid new run same result e bundle bound moves = record {
 pub over-is : (run : Run Signal) (o : Outcome) (t : State) → run ≡ Over o t → IsOver run o t
 over-is run o t e = subst (λ r. IsOver r o t) (sym e) (refl, refl)
 
+pub done-is : (run : Run Signal) (m : Machine) → IsDone run m → IsOver run way.Done m.state
+done-is run m d = subst (λ r. IsOver r way.Done m.state) (sym d.done) (refl, refl)
+
 -- a part that ends the program, or wants memory
 pub moves_off : (setting : Setting) (part : Follows → Run Signal) (why : Halt) (t : State) (k : Follows) (m : Machine)
-    → m.state ≡ t
-    → Goes setting part (Err why) t → MovesBy (part k) (Err why) m
-moves_off setting part Memory t k m e h = tt
-moves_off setting part (Finished o) t k m e h = subst (λ s. IsOver (part k) o s) (sym e) (over-is (part k) o t (h.by k))
-moves_off setting part (Stopped at) t k m e h = h.by
+    (came : Came) → came ≡ came_of why → m.state ≡ t → Goes setting part (Err why) t → MovesBy (part k) came m
+moves_off setting part why t k m came is e h =
+    subst (λ c. MovesBy (part k) c m) (sym is) (by why h)
+  where
+    by : (why : Halt) → Goes setting part (Err why) t → MovesBy (part k) (came_of why) m
+    by Memory h = tt
+    by (Finished o) h = h.by k ∙ ap (Over o) (sym e)
+    by (Stopped at) h = tt
 
 -- the same of a step on the state
 pub taken_off : {A : Type 0} (r : Run A) (next : A → State → Run Signal) (why : Halt) (t : State) (m : Machine)
     → m.state ≡ t
-    → AtOnce r (Err why) t → MovesBy (and_then r next) (Err why) m
+    → AtOnce r (Err why) t → MovesBy (and_then r next) (came_of why) m
 unfolding and_then
 taken_off r next Memory t m e h = tt
-taken_off r next (Finished o) t m e h = subst (λ s. IsOver (and_then r next) o s) (sym e)
-    (over-is (and_then r next) o t (ap (λ z. and_then z next) h.leaves))
-taken_off r next (Stopped at) t m e h = h.leaves
+taken_off r next (Finished o) t m e h = ap (λ z. and_then z next) h.leaves ∙ ap (Over o) (sym e)
+taken_off r next (Stopped at) t m e h = tt
 
 -- ---- calls and files
 
@@ -171,46 +180,60 @@ module _ (m : Machine) (s : State) where
         ∙ sym (rest-held (waiting.EndFile m.depth) items s) ∙ ap (rest_of new) (sym state)
 
   -- nothing is pending
-  pub nothing-left : (popped : List Waiting) (g : Given) (t : State) → m.pending.items ≡ popped ++ [] → popped ≡ []
-      → IsOver (pending_rest m.bundle.now m.bound m.depth (reverse m.pending.items) g t) way.Done t
-  nothing-left popped g t e none =
-      let empty : m.pending.items ≡ [] = e ∙ ap (λ (l : List Waiting). l ++ []) none in
-      rw empty (refl, refl)
+  pub nothing-left : (popped : List Waiting) (g : Given) (new : Machine) → m.pending.items ≡ popped ++ []
+      → popped ≡ [] → new.hand ≡ hand.Part (part.Give g) → new.state ≡ s
+      → IsDone (pending_rest m.bundle.now m.bound m.depth (reverse m.pending.items) g s) new
+  nothing-left popped g new e none held state =
+      let empty : m.pending.items ≡ [] = e ∙ ap (λ (l : List Waiting). l ++ []) none in record {
+        given = g;
+        in_hand = held;
+        done = rw empty (ap (Done (signal_of g)) (sym state));
+      }
 
 -- what is in hand
-pub moves_hand : (m new : Machine) (h : Hand) (result : Result (Option (MomentKind × ℕ)) Halt) (mid : Machine)
+pub moves_hand : (m new : Machine) (h : Hand) (came : Came) (mid : Machine)
     → m.hand ≡ h
-    → mid.bundle.now ≡ m.bundle.now → mid.bound ≡ m.bound → Moves mid (rest_with m h m.state) result new
-    → Moves m (rest_of m m.state) result new
+    → mid.bundle.now ≡ m.bundle.now → mid.bound ≡ m.bound → Moves mid (rest_with m h m.state) came new
+    → Moves m (rest_of m m.state) came new
 unfolding rest_of
-moves_hand m new h result mid e bundle bound moves =
-    moves_as m mid new _ _ result (ap (λ (x : Hand). rest_with m x m.state) e) bundle bound moves
+moves_hand m new h came mid e bundle bound moves =
+    moves_as m mid new _ _ came (ap (λ (x : Hand). rest_with m x m.state) e) bundle bound moves
+
+-- this is in hand behind the moment of a statement
+pub placed-moves : (m new : Machine) (line : ℕ) (h : Hand) → new.bundle.now ≡ m.bundle.now → new.bound ≡ m.bound
+    → new.depth ≡ m.depth → new.hand ≡ h → new.pending.items ≡ m.pending.items → new.state ≡ m.state
+    → Moves m (At moment.Place line m.state (rest_with m h)) (step.Moment moment.Place line) new
+placed-moves m new line h bundle bound depth held items state = record {
+  by = λ i. At moment.Place line (sym state i) (λ t.
+      sym (rest-by new m.bundle.now m.bound m.depth h m.pending.items bundle bound depth held items t) i);
+  same_bundle = bundle;
+  same_bound = bound;
+}
 
 -- a small step that is kept
-pub kept : (old new : Machine) (small : Small)
+pub kept : (old new : Machine) (small : Small) (came : Came) → came ≡ came_to small.moment
     → ((s : State) → rest_of new s ≡ next_rest (setting_at old) small.next (follows_of old) s)
     → (new.bundle.now ≡ old.bundle.now) × (new.bound ≡ old.bound) × (new.state ≡ old.state)
-    → Moves old (small_with old small old.state) (Ok small.moment) new
-kept old new small rest same = record {
-  by = go small.moment ∙ ap (behind small.moment (rest_of new)) (sym same.2);
+    → Moves old (small_with old small old.state) came new
+kept old new small came is rest same = record {
+  by = subst (λ c. MovesBy (small_with old small old.state) c new) (sym is) (go small.moment);
   same_bundle = same.0;
   same_bound = same.1;
 }
   where
     go : (moment : Option (MomentKind × ℕ))
-        → behind moment (next_rest (setting_at old) small.next (follows_of old)) old.state ≡ behind moment
-        (rest_of new) old.state
-    go None = sym (rest old.state)
-    go (Some m) = λ i. At m.0 m.1 old.state (λ t. sym (rest t) i)
+        → MovesBy (behind moment (next_rest (setting_at old) small.next (follows_of old)) old.state)
+        (came_to moment) new
+    go None = sym (rest old.state) ∙ ap (rest_of new) (sym same.2)
+    go (Some m) = λ i. At m.0 m.1 (sym same.2 i) (λ t. sym (rest t) i)
 
 -- a part that goes on to what is kept
 pub moves_on : (setting : Setting) (part : Follows → Run Signal) (small : Small) (t : State) (k : Follows)
-    (old mid new : Machine)
-    (result : Result (Option (MomentKind × ℕ)) Halt) (run : Run Signal) → mid.bundle.now ≡ old.bundle.now
+    (old mid new : Machine) (came : Came) (run : Run Signal) → mid.bundle.now ≡ old.bundle.now
     → mid.bound ≡ old.bound → run ≡ part k
-    → Goes setting part (Ok small) t → Moves mid (small_rest setting small k t) result new → Moves old run result new
-moves_on setting part small t k old mid new result run bundle bound is goes moves =
-    moves_as old mid new run (small_rest setting small k t) result (is ∙ goes.by k) bundle bound moves
+    → Goes setting part (Ok small) t → Moves mid (small_rest setting small k t) came new → Moves old run came new
+moves_on setting part small t k old mid new came run bundle bound is goes moves =
+    moves_as old mid new run (small_rest setting small k t) came (is ∙ goes.by k) bundle bound moves
 
 -- a call whose body is done leaves at a moment, if it gave a signal
 pub call-ends : (m : Machine) (s : State) (depth : ℕ) (g : Given) (h : Hand) (leaves : Bool) (line : ℕ) (new : Machine)
@@ -229,12 +252,13 @@ call-ends m s depth g h leaves line new ends is there b n d e l state =
     n d e l t) i) (sym state i))
 
 pub taken-moves : {A : Type 0} (old new : Machine) (run : Run Signal) (r : Run A) (next : A → State → Run Signal)
-    (why : Halt) (t : State)
+    (why : Halt) (t : State) (came : Came) → came ≡ came_of why
     → run ≡ and_then r next → new.bundle.now ≡ old.bundle.now → new.bound ≡ old.bound → new.state ≡ t
     → AtOnce r (Err why) t
-    → Moves old run (Err why) new
-taken-moves old new run r next why t e bundle bound state h = record {
-  by = subst (λ z. MovesBy z (Err why) new) (sym e) (taken_off r next why t new state h);
+    → Moves old run came new
+taken-moves old new run r next why t came is e bundle bound state h = record {
+  by = subst (λ z. MovesBy z came new) (sym e)
+      (subst (λ c. MovesBy (and_then r next) c new) (sym is) (taken_off r next why t new state h));
   same_bundle = bundle;
   same_bound = bound;
 }

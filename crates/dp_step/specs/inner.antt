@@ -2,4 +2,6 @@
 pub mod Moves
 pub mod Shallow
 pub mod Leaps
+pub mod Apart
 pub mod Passing
+pub mod Innermost

@@ -3,7 +3,7 @@
 ghost use Rattle.std.specs.Prelude.{◌≡◌, ◌-◌};
 
 use crate::deep_turns::is_run_whole;
-use crate::machine::{Arrival, Machine, Progress};
+use crate::machine::{Came, Machine, Progress};
 use crate::small::put_hand;
 use crate::steps::Steps;
 use dp_actions::{Halt, Signal};
@@ -30,7 +30,7 @@ impl<'p> Machine<'p> {
     ghost use Rattle.dp_actions.specs.Setting.{Part};
     ghost use Rattle.dp_state.specs.declared.state.State.{State as AnyState};
     ghost use Rattle.dp_step.specs.inner.Leaps.{HasRun, Leaps, RunsOut, part_with, whole_of};
-    ghost use Rattle.dp_step.specs.inner.Moves.{rest_with};
+    ghost use Rattle.dp_step.specs.inner.Moves.{Moves, rest_with};
     ghost use Rattle.dp_step.specs.inner.Shallow.{runs_whole};
 
     /// Goes on to the end of the program, and answers its outcome; each moment that is left takes one step. Nothing
@@ -238,20 +238,32 @@ impl<'p> Machine<'p> {
         self.onward()
     }
 
+    /// A small step. The turns that are left of a loop whose body is over come into hand.
+    fn go_to_turns(&mut self) -> Came
+        ensures { Moves self.old (rest_of self.old self.old.state) result self.new }
+    {
+        match &self.hand {
+            Hand::Part(PartHand::Give(Given::Signal(Signal::Next))) => self.small(),
+            _ => self.go(),
+        }
+    }
+
     /// A small step, and the moment to which it comes.
     fn onward(&mut self) -> Result<Option<Outcome>, Memory>
         ensures { IfOk result (λ end. Leaps self.old (rest_of self.old self.old.state) end self.new) }
     {
-        match self.go()? {
-            None => Ok(None),
-            Some(Arrival::End(outcome)) => Ok(Some(outcome)),
-            Some(Arrival::Moment(kind, line)) => match self.come(kind, line)? {
+        match self.go_to_turns() {
+            Came::On => Ok(None),
+            Came::Moment(kind, line) => match self.come(kind, line)? {
                 Progress::At(moment) => {
                     drop(moment);
                     Ok(None)
                 }
                 Progress::Ended(outcome) => Ok(Some(outcome)),
             },
+            Came::Done => Ok(Some(Outcome::Done)),
+            Came::Over(outcome) => Ok(Some(outcome)),
+            Came::Failed => Err(Memory),
         }
     }
 }

@@ -1,8 +1,8 @@
 //! A program that stops at each of its moments.
 
-ghost use Rattle.std.specs.Prelude.{◌≡◌, ◌+◌, IfOk, option_map};
+ghost use Rattle.std.specs.Prelude.{◌≡◌, ◌+◌};
 ghost use Rattle.dp_step.specs.Stands.{steps_of};
-ghost use Rattle.dp_step.specs.inner.Moves.{IsEnd, arrived_at};
+ghost use Rattle.dp_step.specs.inner.Moves.{came_of};
 
 use crate::small::{file_hand, put_hand};
 use crate::steps::Steps;
@@ -37,6 +37,21 @@ pub enum Progress {
     Ended(Outcome),
 }
 
+/// What a small step comes to.
+#[derive(Clone, Copy)]
+pub(crate) enum Came {
+    /// Nothing yet.
+    On,
+    /// A moment of this kind, on this line of the top frame.
+    Moment(MomentKind, u32),
+    /// All that was to be done is done, and what the last part gave is in hand.
+    Done,
+    /// The program is over.
+    Over(Outcome),
+    /// Memory ran out.
+    Failed,
+}
+
 /// What the small steps up to the next moment come to.
 #[derive(Clone, Copy)]
 pub(crate) enum Arrival {
@@ -52,7 +67,7 @@ impl<'p> Machine<'p> {
     ghost use Rattle.dp_state.specs.declared.moments.Outcome.{Outcome as SomeOutcome};
     ghost use Rattle.dp_step.specs.declared.machine.Progress.TheVariants as any_progress;
     ghost use Rattle.dp_step.specs.Stands.{GoesOn, HasEnded, HasFailed, Leaves, StandsFor, rest_of, steps_of};
-    ghost use Rattle.dp_step.specs.inner.Moves.{Arrives, Comes, Goes};
+    ghost use Rattle.dp_step.specs.inner.Moves.{Arrives, Comes};
 
     /// A program before its first moment, whose machine has not failed. A run has at most `bound` moments.
     pub fn start(alloc: Global, bundle: &'p Bundle, bound: u64) -> Result<Machine<'p>, Memory>
@@ -163,22 +178,16 @@ impl<'p> Machine<'p> {
         ensures { IfOk result (λ arrival. Arrives self.old (rest_of self.old self.old.state) arrival self.new) }
     {
         for _ in 0..u64::MAX {
-            match self.go()? {
-                None => {}
-                Some(arrival) => return Ok(arrival),
+            match self.go() {
+                Came::On => {}
+                Came::Moment(kind, line) => return Ok(Arrival::Moment(kind, line)),
+                Came::Done => return Ok(Arrival::End(Outcome::Done)),
+                Came::Over(outcome) => return Ok(Arrival::End(outcome)),
+                Came::Failed => return Err(Memory),
             }
         }
+        // No run has so many small steps.
         Err(Memory)
-    }
-
-    /// A small step, and whether it came to a moment or to the end.
-    pub(crate) fn go(&mut self) -> Result<Option<Arrival>, Memory>
-        ensures { IfOk result (λ arrival. Goes self.old (rest_of self.old self.old.state) arrival self.new) }
-    {
-        match self.small() {
-            Ok(moment) => Ok(arrival_of(moment)),
-            Err(why) => ended(why),
-        }
     }
 }
 
@@ -192,25 +201,15 @@ fn count<L: Ledger>(progress: &Progress, steps: &mut Steps<L>)
     }
 }
 
-/// The moment to which a small step came, if it did.
-fn arrival_of(moment: Option<(MomentKind, u32)>) -> Option<Arrival>
-    ensures { result ≡ option_map arrived_at moment }
-{
-    match moment {
-        None => None,
-        Some((kind, line)) => Some(Arrival::Moment(kind, line)),
-    }
-}
-
-/// The end that a small step reached.
-fn ended(why: Halt) -> Result<Option<Arrival>, Memory>
-    ensures { IfOk result (λ arrival. IsEnd why arrival) }
+/// What a small step that was halted comes to.
+pub(crate) fn halted(why: Halt) -> Came
+    ensures { result ≡ came_of why }
 {
     match why {
-        Halt::Finished(outcome) => Ok(Some(Arrival::End(outcome))),
+        Halt::Finished(outcome) => Came::Over(outcome),
         other => {
             drop(other);
-            Err(Memory)
+            Came::Failed
         }
     }
 }

@@ -5,11 +5,11 @@ ghost use Rattle.std.specs.Option.{option_copied};
 ghost use Rattle.dp_step.specs.inner.Passing.{IsInHand, IsQuietBy};
 
 use crate::finish::risen;
-use crate::machine::{Arrival, Machine, Progress};
+use crate::machine::{Arrival, Came, Machine, Progress, halted};
 use crate::small::put_hand;
 use crate::steps::Steps;
-use dp_actions::Halt;
 use dp_quiet::{DeepNames, is_quiet, loud_names};
+use dp_state::Outcome;
 use dp_step_parts::{Given, Hand as PartHand};
 use dp_step_statements::Hand;
 use dp_tree::Statement;
@@ -87,22 +87,22 @@ impl<'p> Machine<'p> {
             self.new) }
     {
         for _ in 0..u64::MAX {
-            match self.nearer(lines, loud)? {
-                None => {}
-                Some(arrival) => return Ok(arrival),
+            match self.nearer(lines, loud) {
+                Came::On => {}
+                Came::Moment(kind, line) => return Ok(Arrival::Moment(kind, line)),
+                Came::Done => return Ok(Arrival::End(Outcome::Done)),
+                Came::Over(outcome) => return Ok(Arrival::End(outcome)),
+                Came::Failed => return Err(Memory),
             }
         }
+        // No run has so many small steps.
         Err(Memory)
     }
 
     /// A statement that is quiet, or a small step.
-    fn nearer(
-        &mut self,
-        lines: &[u32],
-        loud: Option<&DeepNames<'p>>,
-    ) -> Result<Option<Arrival>, Memory>
+    fn nearer(&mut self, lines: &[u32], loud: Option<&DeepNames<'p>>) -> Came
         ensures { AreLoud lines.now self.old.bundle.now (option_copied loud.entry)
-            → IfOk result (λ arrival. Nears lines.now (is_some (option_copied loud.entry)) self.old arrival self.new) }
+            → Nears lines.now (is_some (option_copied loud.entry)) self.old result self.new }
     {
         match quiet_in(lines, loud, &self.hand) {
             Some(statement) => self.run_quiet(statement),
@@ -111,23 +111,19 @@ impl<'p> Machine<'p> {
     }
 
     /// A statement that is in hand, whole.
-    fn run_quiet(&mut self, statement: &'p Statement) -> Result<Option<Arrival>, Memory>
+    fn run_quiet(&mut self, statement: &'p Statement) -> Came
         ensures { (lines : List ℕ) (names : Option (List (List ℕ))) → AreLoud lines self.old.bundle.now names
             → IsInHand lines names self.old.hand statement.now
-            → IfOk result (λ arrival. Nears lines (is_some names) self.old arrival self.new) }
+            → Nears lines (is_some names) self.old result self.new }
     {
         let done = self.whole().statement(statement, &mut self.state);
         match done {
             Ok(signal) => {
                 let given = Given::Signal(signal);
                 put_hand(&mut self.hand, Hand::Part(PartHand::Give(given)));
-                Ok(None)
+                Came::On
             }
-            Err(Halt::Finished(outcome)) => Ok(Some(Arrival::End(outcome))),
-            Err(other) => {
-                drop(other);
-                Err(Memory)
-            }
+            Err(why) => halted(why),
         }
     }
 }

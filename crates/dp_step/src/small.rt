@@ -10,13 +10,13 @@ ghost use Rattle.dp_state.specs.States.{line_of};
 ghost use Rattle.dp_step_statements.specs.Rest.{behind, hand_rest, waiting_rest};
 ghost use Rattle.dp_step_parts.specs.Rest.{Follows, to_signal};
 ghost use Rattle.dp_step_statements.specs.declared.work.Waiting.TheVariants as any_waiting;
-ghost use Rattle.dp_step.specs.inner.Moves.{ends_call as call_ends, leave_if};
+ghost use Rattle.dp_step.specs.inner.Moves.{came_to, ends_call as call_ends, leave_if};
 ghost use Rattle.dp_step_statements.specs.declared.work.Hand.TheVariants as any_hand;
 
-use crate::machine::Machine;
-use dp_actions::{Halt, Signal, enter_call, enter_file, fatal};
-use dp_meaning::{all_momentless, is_momentless};
-use dp_state::{FatalKind, MomentKind, Outcome};
+use crate::machine::{Came, Machine, halted};
+use dp_actions::{Signal, enter_call, enter_file, fatal};
+use dp_meaning::all_momentless;
+use dp_state::{FatalKind, MomentKind};
 use dp_step_parts::{Given, Hand as PartHand};
 use dp_step_statements::{Hand, Next, Small, Waiting, Work, first_of, receive};
 use dp_tree::{Bundle, Expression, Function};
@@ -24,7 +24,7 @@ use dp_value::{Items, Memory, Value};
 use std::mem;
 
 impl<'p> Machine<'p> {
-    ghost use Rattle.std.specs.Prelude.{◌≡◌, ◌++◌, ◌∷◌, [], ◌<◌, true, Ok, OnOk};
+    ghost use Rattle.std.specs.Prelude.{◌≡◌, ◌++◌, ◌∷◌, [], ◌<◌, true, OnOk};
     ghost use Rattle.std.specs.List.{list_all};
     ghost use Rattle.dp_meaning.specs.Momentless.{is_momentless as has_no_moment};
     ghost use Rattle.dp_state.specs.declared.state.State.{State as AnyState};
@@ -33,51 +33,32 @@ impl<'p> Machine<'p> {
     ghost use Rattle.dp_step.specs.inner.Moves.{Moves, body_with, end_with, file_with, next_with, rest_with};
     ghost use Rattle.dp_step.specs.inner.Moves.{small_with, work_with};
 
-    /// A small step. It may come to a moment of a kind, on a line of the top frame.
-    pub(crate) fn small(&mut self) -> Result<Option<(MomentKind, u32)>, Halt>
+    /// A small step with what is in hand taken out.
+    pub(crate) fn small(&mut self) -> Came
         ensures { Moves self.old (rest_of self.old self.old.state) result self.new }
     {
         match mem::replace(&mut self.hand, Hand::Failed) {
             Hand::Part(part) => self.part(part),
             Hand::Call(file, function, values) => self.call(file, function, values),
             Hand::Include(file) => self.include(file),
+            Hand::Left(signal) => self.left(signal),
             hand => self.first(hand),
         }
     }
 
     /// A small step with a part of an expression that was in hand.
-    fn part(&mut self, part: PartHand<'p>) -> Result<Option<(MomentKind, u32)>, Halt>
+    fn part(&mut self, part: PartHand<'p>) -> Came
         ensures { Moves self.old (rest_with self.old (any_hand.Part part.entry) self.old.state) result self.new }
     {
         match part {
             PartHand::Give(given) => self.take(given),
-            PartHand::Evaluate(e) => self.evaluate_whole(e),
             PartHand::Values(before, all, at) => self.values_whole(before, all, at),
             part => self.first(Hand::Part(part)),
         }
     }
 
-    /// A small step with an expression. One in which no moment can come is evaluated whole.
-    fn evaluate_whole(&mut self, e: &'p Expression) -> Result<Option<(MomentKind, u32)>, Halt>
-        ensures { Moves self.old (rest_with self.old (any_hand.Part (any_part.Evaluate e.entry)) self.old.state)
-            result self.new }
-    {
-        if !is_momentless(e) {
-            return self.first(Hand::Part(PartHand::Evaluate(e)));
-        }
-        match self.whole().value(e, &mut self.state) {
-            Ok(value) => self.take(Given::Value(value)),
-            Err(why) => Err(why),
-        }
-    }
-
     /// A small step with expressions that are left. All of them are evaluated whole where no moment can come in them.
-    fn values_whole(
-        &mut self,
-        before: Items<Value>,
-        all: &'p Items<Expression>,
-        at: usize,
-    ) -> Result<Option<(MomentKind, u32)>, Halt>
+    fn values_whole(&mut self, before: Items<Value>, all: &'p Items<Expression>, at: usize) -> Came
         ensures { Moves self.old (rest_with self.old (any_hand.Part (any_part.Values before all.entry at))
             self.old.state) result self.new }
     {
@@ -90,64 +71,61 @@ impl<'p> Machine<'p> {
     }
 
     /// A small step with expressions in which no moment can come.
-    fn values_at_once(
-        &mut self,
-        all: &'p Items<Expression>,
-    ) -> Result<Option<(MomentKind, u32)>, Halt>
+    fn values_at_once(&mut self, all: &'p Items<Expression>) -> Came
         requires { list_all has_no_moment all.now ≡ true }
         ensures { Moves self.old (rest_with self.old (any_hand.Part (any_part.Values [] all.entry 0)) self.old.state)
             result self.new }
     {
         match self.whole().values(all.as_slice(), &mut self.state) {
             Ok(values) => self.take(Given::Values(values)),
-            Err(why) => Err(why),
+            Err(why) => halted(why),
         }
     }
 
     /// A small step with what was in hand.
-    fn first(&mut self, hand: Hand<'p>) -> Result<Option<(MomentKind, u32)>, Halt>
+    pub(crate) fn first(&mut self, hand: Hand<'p>) -> Came
         ensures { Moves self.old (rest_with self.old hand.entry self.old.state) result self.new }
     {
         match first_of(self.alloc, self.bundle, self.bound, hand, &mut self.state) {
             Ok(small) => self.keep(small),
-            Err(why) => Err(why),
+            Err(why) => halted(why),
         }
     }
 
     /// Something is given to the innermost item of the pending work.
-    fn take(&mut self, given: Given) -> Result<Option<(MomentKind, u32)>, Halt>
+    pub(crate) fn take(&mut self, given: Given) -> Came
         ensures { Moves self.old (rest_with self.old (any_hand.Part (any_part.Give given)) self.old.state) result
             self.new }
     {
         match self.pending.pop() {
             None => {
-                drop(given);
-                Err(Halt::Finished(Outcome::Done))
+                put_hand(&mut self.hand, Hand::Part(PartHand::Give(given)));
+                Came::Done
             }
             Some(Waiting::Part(work)) => self.pass(work, given),
-            Some(Waiting::EndCall(depth)) => Ok(self.end_call(depth, given)),
-            Some(Waiting::EndFile(depth)) => Ok(self.end_file(depth, given)),
+            Some(Waiting::EndCall(depth)) => self.end_call(depth, given),
+            Some(Waiting::EndFile(depth)) => self.end_file(depth, given),
         }
     }
 
     /// Something is given to a part that waited.
-    fn pass(&mut self, work: Work<'p>, given: Given) -> Result<Option<(MomentKind, u32)>, Halt>
+    fn pass(&mut self, work: Work<'p>, given: Given) -> Came
         ensures { Moves self.old (work_with self.old work.entry given self.old.state) result self.new }
     {
         match receive(self.alloc, self.bundle, work, given, &mut self.state) {
             Ok(small) => self.keep(small),
-            Err(why) => Err(why),
+            Err(why) => halted(why),
         }
     }
 
     /// What a small step comes to is kept.
-    fn keep(&mut self, small: Small<'p>) -> Result<Option<(MomentKind, u32)>, Halt>
+    pub(crate) fn keep(&mut self, small: Small<'p>) -> Came
         ensures { Moves self.old (small_with self.old small.entry self.old.state) result self.new }
     {
         let Small { moment, next } = small;
         match self.hold(next) {
-            Ok(()) => Ok(moment),
-            Err(_) => Err(Halt::Memory),
+            Ok(()) => came_at(moment),
+            Err(_) => Came::Failed,
         }
     }
 
@@ -168,7 +146,7 @@ impl<'p> Machine<'p> {
     }
 
     /// This is in hand, and the innermost item of the pending work is this.
-    fn hold_both(&mut self, hand: Hand<'p>, item: Waiting<'p>) -> Result<(), Memory>
+    pub(crate) fn hold_both(&mut self, hand: Hand<'p>, item: Waiting<'p>) -> Result<(), Memory>
         ensures held { OnOk result ((self.new.hand ≡ hand.entry)
             × (self.new.pending.items ≡ self.old.pending.items ++ item.entry ∷ [])) }
         ensures kept { (self.new.bundle.now ≡ self.old.bundle.now) × (self.new.bound ≡ self.old.bound)
@@ -185,91 +163,96 @@ impl<'p> Machine<'p> {
     }
 
     /// A function of a file is called.
-    fn call(
-        &mut self,
-        file: u32,
-        function: &'p Function,
-        values: Items<Value>,
-    ) -> Result<Option<(MomentKind, u32)>, Halt>
+    pub(crate) fn call(&mut self, file: u32, function: &'p Function, values: Items<Value>) -> Came
         ensures { Moves self.old (rest_with self.old (any_hand.Call file function.entry values) self.old.state) result
             self.new }
     {
         if self.depth == 0 {
             drop(values);
-            Err(fatal(FatalKind::TooDeep, &self.state))
+            halted(fatal(FatalKind::TooDeep, &self.state))
         } else {
             match enter_call(file, function, values, &mut self.state) {
                 Ok(()) => self.begin_body(function),
-                Err(why) => Err(why),
+                Err(why) => halted(why),
             }
         }
     }
 
     /// A function that was entered begins with a moment on its line.
-    fn begin_body(&mut self, function: &'p Function) -> Result<Option<(MomentKind, u32)>, Halt>
+    fn begin_body(&mut self, function: &'p Function) -> Came
         requires { 0 < self.old.depth }
         ensures { Moves self.old (body_with self.old function.now self.old.state) result self.new }
     {
         match self.hold_both(Hand::Each(&function.body, 0), Waiting::EndCall(self.depth)) {
             Ok(()) => {
                 self.depth -= 1;
-                Ok(Some((MomentKind::Enter, function.line)))
+                Came::Moment(MomentKind::Enter, function.line)
             }
-            Err(_) => Err(Halt::Memory),
+            Err(_) => Came::Failed,
         }
     }
 
     /// The file of this number is included.
-    fn include(&mut self, file: u32) -> Result<Option<(MomentKind, u32)>, Halt>
+    fn include(&mut self, file: u32) -> Came
         ensures { Moves self.old (rest_with self.old (any_hand.Include file) self.old.state) result self.new }
     {
         if self.depth == 0 {
-            Err(fatal(FatalKind::TooDeep, &self.state))
+            halted(fatal(FatalKind::TooDeep, &self.state))
         } else {
             match enter_file(self.bundle, file, &mut self.state) {
                 Ok(()) => self.begin_file(file),
-                Err(why) => Err(why),
+                Err(why) => halted(why),
             }
         }
     }
 
     /// A file that was entered begins.
-    fn begin_file(&mut self, file: u32) -> Result<Option<(MomentKind, u32)>, Halt>
+    fn begin_file(&mut self, file: u32) -> Came
         requires { 0 < self.old.depth }
         ensures { Moves self.old (file_with self.old file self.old.state) result self.new }
     {
         match self.hold_both(file_hand(self.bundle, file), Waiting::EndFile(self.depth)) {
             Ok(()) => {
                 self.depth -= 1;
-                Ok(None)
+                Came::On
             }
-            Err(_) => Err(Halt::Memory),
+            Err(_) => Came::Failed,
         }
     }
 
     /// The body of a call is done.
-    fn end_call(&mut self, depth: u64, given: Given) -> Option<(MomentKind, u32)>
-        ensures { Moves self.old (end_with self.old (any_waiting.EndCall depth) given self.old.state)
-            (Ok result) self.new }
+    fn end_call(&mut self, depth: u64, given: Given) -> Came
+        ensures { Moves self.old (end_with self.old (any_waiting.EndCall depth) given self.old.state) result
+            self.new }
     {
         self.depth = depth;
         let leaves = ends_call(&given);
         put_hand(&mut self.hand, call_hand(given));
         if leaves {
-            Some((MomentKind::Leave, self.state.line()))
+            Came::Moment(MomentKind::Leave, self.state.line())
         } else {
-            None
+            Came::On
         }
     }
 
     /// The statements of an included file are done.
-    fn end_file(&mut self, depth: u64, given: Given) -> Option<(MomentKind, u32)>
-        ensures { Moves self.old (end_with self.old (any_waiting.EndFile depth) given self.old.state)
-            (Ok result) self.new }
+    fn end_file(&mut self, depth: u64, given: Given) -> Came
+        ensures { Moves self.old (end_with self.old (any_waiting.EndFile depth) given self.old.state) result
+            self.new }
     {
         self.depth = depth;
         put_hand(&mut self.hand, file_left(given));
-        None
+        Came::On
+    }
+}
+
+/// What a small step comes to that may lead to a moment.
+fn came_at(moment: Option<(MomentKind, u32)>) -> Came
+    ensures { result ≡ came_to moment }
+{
+    match moment {
+        None => Came::On,
+        Some((kind, line)) => Came::Moment(kind, line),
     }
 }
 

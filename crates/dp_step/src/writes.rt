@@ -4,10 +4,11 @@ ghost use Rattle.std.specs.Prelude.{◌≡◌, false, Ok, OnOk, OnErr, IfErr};
 ghost use Rattle.dp_state.specs.Places.{assigned as assigned_at, given_keys as all_given};
 ghost use Rattle.dp_state.specs.States.{IsCause};
 
+use crate::apart::evaluation;
 use crate::errors::StepError;
 use crate::machine::Machine;
 use dp_actions::given_keys;
-use dp_meaning::{NumberedWrite, evaluation, write_all};
+use dp_meaning::{NumberedWrite, write_all};
 use dp_state::{Fault, Path, State};
 use dp_tree::Expression;
 use dp_value::{Memory, Value};

@@ -15,12 +15,12 @@ use Rattle.dp_actions.specs.Expressions.{evaluation, evaluations, expression_run
 use Rattle.dp_actions.specs.Run.{Run, At, and_then, taken, ◌>>=◌}
 use Rattle.dp_actions.specs.Setting.{Setting, Part}
 use Rattle.dp_actions.specs.inner.StatementParts.{kind_run}
-use Rattle.dp_actions.specs.Statements.{ArmRun, KindRun, body_run, branch, constants_run, defined_then, echoes, echoed, go_on, statement_run}
+use Rattle.dp_actions.specs.Statements.{ArmRun, KindRun, body_run, constants_run, constant_then, echoes, echoed, go_on, statement_run}
 use Rattle.dp_actions.proofs.Runs.{and_then-assoc}
 use Rattle.dp_actions.specs.Places.{PlaceRun, unset_run}
 use Rattle.dp_actions.proofs.Layers.{run-place}
 use Rattle.dp_actions.proofs.StatementLayers.{kind-If, run-arm, run-statement}
-use Rattle.dp_step_statements.specs.Rest.{arms_part, branch_of, next_to}
+use Rattle.dp_step_statements.specs.Rest.{arms_part, branch_of, chosen, next_to}
 use Rattle.dp_step_parts.specs.Rest.{Follows, to_signal}
 use Rattle.dp_step_parts.proofs.FirstParts.{from-member}
 
@@ -51,7 +51,7 @@ module _ (setting : Setting) (k : Follows) (s : State) where
   pub constants-first : (first : Definition) (rest : List Definition)
       → (constants_run (first ∷ rest) setting s >>= to_signal k)
       ≡ (evaluation first.value setting s
-      >>= λ v t. defined_then first.name (constants_run rest setting) v t >>= to_signal k)
+      >>= λ v t. constant_then first.name (constants_run rest setting) v t >>= to_signal k)
   constants-first first rest = and_then-assoc _ _ _
 
   pub if-is : (statement : Statement) (arms : List Arm) (otherwise : Option Statement)
@@ -63,16 +63,20 @@ module _ (setting : Setting) (k : Follows) (s : State) where
 
   pub arms-first : (all : List Arm) (at : ℕ) (first : Arm) (otherwise : Option Statement) → at < length all
       → first ≡ get_or all at first
-      → At moment.Place first.line s (λ t. evaluation first.test setting t
-      >>= λ v u. branch_of (drop at all) otherwise setting v u >>= to_signal k)
+      → At moment.Place first.line s (λ t. chosen (drop at all) otherwise setting t >>= to_signal k)
       ≡ (arms_part (drop at all) otherwise setting s >>= to_signal k)
   unfolding and_then
   arms-first all at first otherwise h e =
       let part = from-member all at first h e in
-      rw part ((λ i. At moment.Place first.line s (λ t. sym (and_then-assoc (evaluation first.test setting t)
-      (branch (statement_run first.body) (arms_part (drop (at + 1) all) otherwise) setting) (to_signal k)) i))
-      ∙ ap (λ (a : ArmRun). a (arms_part (drop (at + 1) all) otherwise) setting s >>= to_signal k)
+      rw part (ap (λ (a : ArmRun). a (arms_part (drop (at + 1) all) otherwise) setting s >>= to_signal k)
       (sym (run-arm first)))
+
+  pub chosen-first : (all : List Arm) (at : ℕ) (first : Arm) (otherwise : Option Statement) → at < length all
+      → first ≡ get_or all at first
+      → (chosen (drop at all) otherwise setting s >>= to_signal k)
+      ≡ (evaluation first.test setting s >>= λ v t. branch_of (drop at all) otherwise setting v t >>= to_signal k)
+  chosen-first all at first otherwise h e =
+      let part = from-member all at first h e in rw part (and_then-assoc _ _ _)
 
   pub unset-first : (first : Place) (rest : List Place)
       → (unset_run (map place_run (first ∷ rest)) setting s >>= next_to k)

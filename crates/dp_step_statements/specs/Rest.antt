@@ -24,7 +24,7 @@ use Rattle.dp_actions.specs.Places.{unset_run}
 use Rattle.dp_actions.specs.Bodies.{leaving, left_call, left_file}
 use Rattle.dp_actions.specs.Run.{Run, Done, Over, At, taken, ◌>>=◌}
 use Rattle.dp_actions.specs.Setting.{Setting, Part}
-use Rattle.dp_actions.specs.Statements.{arms_run, body_run, constants_run, defined_then}
+use Rattle.dp_actions.specs.Statements.{arms_run, body_run, constants_run, constant_then}
 use Rattle.dp_actions.specs.Statements.{echoed, echoes}
 use Rattle.dp_actions.specs.Statements.{each_turns, go_on, statement_run}
 use Rattle.dp_actions.specs.Effects.{exit_run, with_globals}
@@ -73,6 +73,12 @@ branch_decided (arm ∷ arms) otherwise setting b s =
 
 abbrev pub branch_of : List Arm → Option Statement → Setting → Value → State → Run Signal
 branch_of arms otherwise setting v s = branch_decided arms otherwise setting (holds v) s
+
+-- of the first of these arms, whose moment has come: its test, and then by whether it holds
+abbrev pub chosen : List Arm → Option Statement → Part Signal
+chosen [] otherwise setting s = Done Next s
+chosen (arm ∷ arms) otherwise setting s =
+    evaluation arm.test setting s >>= branch_of (arm ∷ arms) otherwise setting
 
 -- the first of these statements, and the body of the first of these arms
 abbrev pub first_run : List Statement → Part Signal
@@ -150,6 +156,25 @@ each_turn setting loop (entry ∷ more) s =
     >>= λ g u. after_body g
     (each_run loop.line loop.binding.now more (statement_run loop.body.now setting)) u
 
+-- a loop whose body gave a signal; or whose tests are due, or a turn, since its moment has come
+abbrev pub turn_rest : Setting → Turns → ℕ → Bool → Signal → State → Run Signal
+turn_rest setting loop left due g s =
+    if due
+    then (evaluations (tests_of loop.head) setting s >>= turns_tested setting loop left)
+    else after_body g (turns_next setting loop left) s
+
+abbrev pub do_rest : Setting → DoTurns → ℕ → Bool → Signal → State → Run Signal
+do_rest setting loop left due g s =
+    if due
+    then (evaluation loop.test.now setting s >>= do_tested setting loop left)
+    else after_body g (do_test setting loop left) s
+
+abbrev pub each_rest : Setting → EachTurns → Value → ℕ → Bool → Signal → State → Run Signal
+each_rest setting loop subject at due g s =
+    if due
+    then each_turn setting loop (drop at (entries subject)) s
+    else after_body g (each_from setting loop subject at) s
+
 -- ---- what is in hand is done, and then what follows
 
 abbrev pub hand_rest : Setting → Hand → Follows → State → Run Signal
@@ -161,6 +186,11 @@ hand_rest setting (hand.RunAt statements at) k s =
     first_run (drop at statements.now) setting s >>= to_signal k
 hand_rest setting (hand.RunArm arms at) k s =
     first_body_run (drop at arms.now) setting s >>= to_signal k
+hand_rest setting (hand.Effect e) k s = evaluation e.now setting s >>= next_to k
+hand_rest setting (hand.Returning e) k s =
+    evaluation e.now setting s >>= λ v t. to_signal k (Return v) t
+hand_rest setting (hand.Choose arms at otherwise) k s =
+    chosen (drop at arms.now) otherwise.now setting s >>= to_signal k
 hand_rest setting (hand.Each statements at) k s =
     body_run (drop at statements.now) setting s >>= to_signal k
 hand_rest setting (hand.Echo operands at) k s = echo_after setting (drop at operands.now) k s
@@ -189,7 +219,7 @@ after_rest setting after_work.Discard v k s = next_to k v s
 after_rest setting (after_work.Echoed operands at) v k s =
     echoed (echoes (map expression_run (drop at operands.now)) setting) v s >>= to_signal k
 after_rest setting (after_work.Defined name all at) v k s =
-    defined_then name.now (constants_run (drop at all.now) setting) v s >>= to_signal k
+    constant_then name.now (constants_run (drop at all.now) setting) v s >>= to_signal k
 after_rest setting (after_work.Branch arms at otherwise) v k s =
     branch_of (drop at arms.now) otherwise.now setting v s >>= to_signal k
 after_rest setting after_work.ReturnIt v k s = to_signal k (Return v) s
@@ -217,12 +247,12 @@ values_rest setting (values_work.Tests loop left) values k s =
 abbrev pub signal_rest : Setting → ForSignal → Signal → Follows → State → Run Signal
 signal_rest setting (signal_work.Rest statements at) g k s =
     go_on g (body_run (drop at statements.now) setting) s >>= to_signal k
-signal_rest setting (signal_work.Body loop left) g k s =
-    after_body g (turns_next setting loop left) s >>= to_signal k
-signal_rest setting (signal_work.DoBody loop left) g k s =
-    after_body g (do_test setting loop left) s >>= to_signal k
-signal_rest setting (signal_work.EachBody loop subject at) g k s =
-    after_body g (each_from setting loop subject at) s >>= to_signal k
+signal_rest setting (signal_work.Body loop left due) g k s =
+    turn_rest setting loop left due g s >>= to_signal k
+signal_rest setting (signal_work.DoBody loop left due) g k s =
+    do_rest setting loop left due g s >>= to_signal k
+signal_rest setting (signal_work.EachBody loop subject at due) g k s =
+    each_rest setting loop subject at due g s >>= to_signal k
 
 -- It waits for one kind of thing; what is of another kind it passes on.
 abbrev pub work_rest : Setting → Work → Follows → Follows

@@ -195,7 +195,7 @@ pub(crate) fn bind<'p>(
         match bind_at(turns.binding, &subject, at, state) {
             Ok(()) => Ok(Next {
                 hand: Hand::Run(turns.body),
-                waits: Some(Work::ForSignal(ForSignal::EachBody(turns, subject, at + 1))),
+                waits: Some(Work::ForSignal(ForSignal::EachBody(turns, subject, at + 1, false))),
             }),
             Err(why) => {
                 drop(subject);
@@ -206,7 +206,7 @@ pub(crate) fn bind<'p>(
 }
 
 /// The entry at a position is bound.
-fn bind_at(binding: &Binding, subject: &Value, at: usize, state: &mut State) -> Result<(), Halt>
+pub fn bind_at(binding: &Binding, subject: &Value, at: usize, state: &mut State) -> Result<(), Halt>
     ensures { (entry : EntryKey × Data) → slice_get (entries subject.now) at ≡ Some entry
         → AtOnce (bind_run binding.now entry state.old) result state.new }
 {

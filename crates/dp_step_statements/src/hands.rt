@@ -19,7 +19,9 @@ use crate::after::{bind, global, receive_after, receive_values};
 use crate::calls::{begin_call, include};
 use crate::loops::{do_turn, each_turn, receive_signal, turn};
 use crate::next::give;
-use crate::statements::{arms, begin, begin_arm, begin_at, constants, each, echo, unset};
+use crate::statements::{
+    arms, begin, begin_arm, begin_at, choose, constants, each, echo, evaluated, unset,
+};
 use crate::work::{AfterValue, ForSignal, ForValues, Hand, Next, Small, Work};
 use dp_actions::{Halt, Signal, returned};
 use dp_state::State;
@@ -139,6 +141,10 @@ fn first_of_statement<'p>(
             moment: None,
             next: each(all, at),
         }),
+        Hand::Choose(all, at, otherwise) => Ok(Small {
+            moment: None,
+            next: choose(all, at, otherwise),
+        }),
         Hand::Echo(all, at) => Ok(Small {
             moment: None,
             next: echo(all, at),
@@ -157,11 +163,19 @@ fn first_of_statement<'p>(
     }
 }
 
-/// Turns of a loop, or an end.
+/// The value of an expression whose moment has come, turns of a loop, or an end.
 fn first_of_turn<'p>(alloc: Global, hand: Hand<'p>, state: &mut State) -> Result<Small<'p>, Halt>
     ensures { (setting : Setting) → Goes setting (λ k. hand_rest setting hand.entry k state.old) result state.new }
 {
     match hand {
+        Hand::Effect(e) => Ok(Small {
+            moment: None,
+            next: evaluated(e, AfterValue::Discard),
+        }),
+        Hand::Returning(e) => Ok(Small {
+            moment: None,
+            next: evaluated(e, AfterValue::ReturnIt),
+        }),
         Hand::Turn(turns, left) => Ok(turn(alloc, turns, left)),
         Hand::DoTurn(turns, left) => Ok(Small {
             moment: None,

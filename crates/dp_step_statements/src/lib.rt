@@ -9,7 +9,10 @@ mod next;
 mod statements;
 mod work;
 
+pub use after::bind_at;
 pub use hands::{first_of, receive};
+pub use loops::entry_count;
+pub use statements::begin;
 pub use work::{
     AfterValue, DoTurns, EachTurns, ForSignal, ForValues, Hand, Head, Next, Small, Turns, Waiting,
     Work,

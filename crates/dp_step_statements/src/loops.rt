@@ -6,8 +6,8 @@ ghost use Rattle.dp_actions.specs.Expressions.{evaluations};
 ghost use Rattle.dp_actions.specs.Loops.{entries, last_holds as ends_true, after_body as over};
 ghost use Rattle.dp_actions.specs.Run.{and_then};
 ghost use Rattle.dp_actions.specs.Setting.{Setting};
-ghost use Rattle.dp_step_statements.specs.Rest.{do_decided, do_test, do_turns_of, each_from};
-ghost use Rattle.dp_step_statements.specs.Rest.{next_rest, signal_rest, small_rest};
+ghost use Rattle.dp_step_statements.specs.Rest.{do_decided, do_rest, do_test, do_turns_of, each_from, each_rest};
+ghost use Rattle.dp_step_statements.specs.Rest.{next_rest, signal_rest, small_rest, turn_rest};
 ghost use Rattle.dp_step_statements.specs.Rest.{tests_of, turns_decided, turns_next, turns_of, turns_tested};
 ghost use Rattle.dp_step_parts.specs.Rest.{Follows, to_signal};
 
@@ -69,7 +69,7 @@ pub(crate) fn tested<'p>(turns: Turns<'p>, left: u64, holds: bool) -> Next<'p>
     if holds {
         Next {
             hand: Hand::Run(turns.body),
-            waits: Some(Work::ForSignal(ForSignal::Body(turns, left))),
+            waits: Some(Work::ForSignal(ForSignal::Body(turns, left, false))),
         }
     } else {
         signal(Signal::Next)
@@ -98,7 +98,7 @@ pub(crate) fn do_turn<'p>(turns: DoTurns<'p>, left: u64) -> Next<'p>
     } else {
         Next {
             hand: Hand::Run(turns.body),
-            waits: Some(Work::ForSignal(ForSignal::DoBody(turns, left - 1))),
+            waits: Some(Work::ForSignal(ForSignal::DoBody(turns, left - 1, false))),
         }
     }
 }
@@ -141,7 +141,7 @@ pub(crate) fn each_turn<'p>(turns: EachTurns<'p>, subject: Value, at: usize) -> 
 }
 
 /// How many entries a `foreach` walks.
-pub(crate) fn entry_count(subject: &Value) -> usize
+pub fn entry_count(subject: &Value) -> usize
     ensures { result ≡ length (entries subject.now) }
 {
     match subject {
@@ -169,9 +169,24 @@ pub(crate) fn receive_signal<'p>(alloc: Global, work: ForSignal<'p>, given: Sign
                 next: signal(given),
             },
         },
-        ForSignal::Body(turns, left) => body_over(alloc, turns, left, given),
-        ForSignal::DoBody(turns, left) => do_over(turns, left, given),
-        ForSignal::EachBody(turns, subject, at) => each_over(turns, subject, at, given),
+        ForSignal::Body(turns, left, due) => turn_on(alloc, turns, left, due, given),
+        ForSignal::DoBody(turns, left, due) => do_on(turns, left, due, given),
+        ForSignal::EachBody(turns, subject, at, due) => each_on(turns, subject, at, due, given),
+    }
+}
+
+/// A turn whose moment has come, or whose body is over.
+fn turn_on<'p>(alloc: Global, turns: Turns<'p>, left: u64, due: bool, given: Signal) -> Small<'p>
+    ensures { (setting : Setting) (k : Follows) (s : AnyState)
+        → small_rest setting result k s ≡ and_then (turn_rest setting turns.entry left due given s) (to_signal k) }
+{
+    if due {
+        Small {
+            moment: None,
+            next: tests_first(alloc, turns, left),
+        }
+    } else {
+        body_over(alloc, turns, left, given)
     }
 }
 
@@ -210,6 +225,24 @@ fn turns_on<'p>(alloc: Global, turns: Turns<'p>, left: u64) -> Next<'p>
     }
 }
 
+/// A turn of a `do` whose test's moment has come, or whose body is over.
+fn do_on<'p>(turns: DoTurns<'p>, left: u64, due: bool, given: Signal) -> Small<'p>
+    ensures { (setting : Setting) (k : Follows) (s : AnyState)
+        → small_rest setting result k s ≡ and_then (do_rest setting turns.entry left due given s) (to_signal k) }
+{
+    if due {
+        Small {
+            moment: None,
+            next: Next {
+                hand: Hand::Part(PartHand::Evaluate(turns.test)),
+                waits: Some(Work::AfterValue(AfterValue::DoTest(turns, left))),
+            },
+        }
+    } else {
+        do_over(turns, left, given)
+    }
+}
+
 /// The body of a turn of a `do` is over.
 fn do_over<'p>(turns: DoTurns<'p>, left: u64, given: Signal) -> Small<'p>
     ensures { (setting : Setting) (k : Follows) (s : AnyState)
@@ -227,6 +260,31 @@ fn do_over<'p>(turns: DoTurns<'p>, left: u64, given: Signal) -> Small<'p>
             moment: None,
             next: signal(out),
         },
+    }
+}
+
+/// A turn of a `foreach` whose moment has come, or whose body is over.
+fn each_on<'p>(
+    turns: EachTurns<'p>,
+    subject: Value,
+    at: usize,
+    due: bool,
+    given: Signal,
+) -> Small<'p>
+    ensures { (setting : Setting) (k : Follows) (s : AnyState)
+        → small_rest setting result k s ≡ and_then (each_rest setting turns.entry subject at due given s)
+        (to_signal k) }
+{
+    if due {
+        Small {
+            moment: None,
+            next: Next {
+                hand: Hand::Bind(turns, subject, at),
+                waits: None,
+            },
+        }
+    } else {
+        each_over(turns, subject, at, given)
     }
 }
 

@@ -8,7 +8,7 @@ ghost use Rattle.dp_actions.specs.Places.{unset_run};
 ghost use Rattle.dp_actions.specs.Run.{and_then};
 ghost use Rattle.dp_actions.specs.Setting.{Setting};
 ghost use Rattle.dp_actions.specs.Statements.{body_run, constants_run, echoes, end_run, return_run, statement_run};
-ghost use Rattle.dp_step_statements.specs.Rest.{arms_part, branch_decided, first_body_run, first_run};
+ghost use Rattle.dp_step_statements.specs.Rest.{arms_part, branch_decided, chosen, first_body_run, first_run};
 ghost use Rattle.dp_step_statements.specs.Rest.{next_rest, next_to, small_rest};
 ghost use Rattle.dp_step_statements.specs.declared.work.Hand.TheVariants as any_hand;
 ghost use Rattle.dp_step_statements.specs.declared.work.Work.TheVariants as any_work;
@@ -51,7 +51,7 @@ fn alone<'p>(hand: Hand<'p>) -> Next<'p>
 }
 
 /// The value of an expression, and what waits for it.
-fn evaluated<'p>(e: &'p Expression, after: AfterValue<'p>) -> Next<'p>
+pub(crate) fn evaluated<'p>(e: &'p Expression, after: AfterValue<'p>) -> Next<'p>
     ensures { result ≡ record {
       hand = any_hand.Part (any_part.Evaluate e.entry);
       waits = Some (any_work.AfterValue after.entry);
@@ -64,13 +64,13 @@ fn evaluated<'p>(e: &'p Expression, after: AfterValue<'p>) -> Next<'p>
 }
 
 /// The beginning of a statement: its moment, if it has one, and what is done first.
-pub(crate) fn begin<'p>(alloc: Global, bound: u64, statement: &'p Statement) -> Small<'p>
+pub fn begin<'p>(alloc: Global, bound: u64, statement: &'p Statement) -> Small<'p>
     ensures { (setting : Setting) → setting.bound ≡ bound → (k : Follows) (s : AnyState)
         → small_rest setting result k s ≡ and_then (statement_run statement.now setting s) (to_signal k) }
 {
     let line = statement.line;
     match &statement.kind {
-        StatementKind::Expression(e) => placed(line, evaluated(e, AfterValue::Discard)),
+        StatementKind::Expression(e) => placed(line, alone(Hand::Effect(e))),
         StatementKind::Echo(operands) => placed(line, alone(Hand::Echo(operands, 0))),
         StatementKind::Block(statements) => unplaced(alone(Hand::Each(statements, 0))),
         StatementKind::Empty => unplaced(signal(Signal::Next)),
@@ -155,10 +155,7 @@ fn return_value<'p>(value: &'p Option<Expression>) -> Next<'p>
 {
     match value {
         None => signal(Signal::Return(Value::Null)),
-        Some(e) => Next {
-            hand: Hand::Part(PartHand::Evaluate(e)),
-            waits: Some(Work::AfterValue(AfterValue::ReturnIt)),
-        },
+        Some(e) => alone(Hand::Returning(e)),
     }
 }
 
@@ -236,13 +233,22 @@ pub(crate) fn arms<'p>(
             moment: None,
             next: without_arm(otherwise),
         },
-        Some(first) => Small {
-            moment: Some((MomentKind::Place, first.line)),
-            next: Next {
-                hand: Hand::Part(PartHand::Evaluate(&first.test)),
-                waits: Some(Work::AfterValue(AfterValue::Branch(all, at, otherwise))),
-            },
-        },
+        Some(first) => placed(first.line, alone(Hand::Choose(all, at, otherwise))),
+    }
+}
+
+/// The test of the arm at a position, whose moment has come.
+pub(crate) fn choose<'p>(
+    all: &'p Items<Arm>,
+    at: usize,
+    otherwise: &'p Option<Boxed<Statement>>,
+) -> Next<'p>
+    ensures { (setting : Setting) (k : Follows) (s : AnyState)
+        → next_rest setting result k s ≡ and_then (chosen (drop at all.now) otherwise.now setting s) (to_signal k) }
+{
+    match all.as_slice().get(at) {
+        None => signal(Signal::Next),
+        Some(first) => evaluated(&first.test, AfterValue::Branch(all, at, otherwise)),
     }
 }
 

@@ -55,6 +55,12 @@ pub enum Hand<'p> {
     RunAt(&'p Items<Statement>, usize),
     /// The body of the arm at a position.
     RunArm(&'p Items<Arm>, usize),
+    /// An expression as a statement, whose moment has come.
+    Effect(&'p Expression),
+    /// The value of a `return`, whose moment has come.
+    Returning(&'p Expression),
+    /// The test of the arm at a position, whose moment has come, and what is done where no test holds.
+    Choose(&'p Items<Arm>, usize, &'p Option<Boxed<Statement>>),
     /// Statements, one after another.
     Each(&'p Items<Statement>, usize),
     /// The operands of an `echo`.
@@ -126,12 +132,15 @@ pub enum ForValues<'p> {
 pub enum ForSignal<'p> {
     /// A statement, and those from a position on.
     Rest(&'p Items<Statement>, usize),
-    /// The body of a turn, after which at most so many are left.
-    Body(Turns<'p>, u64),
-    /// The body of a turn of a `do`.
-    DoBody(DoTurns<'p>, u64),
-    /// The body of a turn of a `foreach`, the subject, and the position of the entry behind it.
-    EachBody(EachTurns<'p>, Value, usize),
+    /// The body of a turn, after which at most so many are left; or the tests of that turn, if they are due, since its
+    /// moment has come.
+    Body(Turns<'p>, u64, bool),
+    /// The body of a turn of a `do`, after which at most so many are left; or the test behind it, if it is due, since
+    /// its moment has come.
+    DoBody(DoTurns<'p>, u64, bool),
+    /// The body of a turn of a `foreach`, the subject, and the position of the entry behind it; or the turn of that
+    /// entry, if it is due, since its moment has come.
+    EachBody(EachTurns<'p>, Value, usize, bool),
 }
 
 /// A part that waits for what is in hand.

@@ -10,12 +10,13 @@ ghost use Rattle.dp_write_commands.specs.Results.{Answers, IsSent, refusal_at_on
 ghost use Rattle.dp_write_commands.specs.Responses.{code_in};
 ghost use Rattle.dp_write_commands.specs.inner.Writes.{Makes, kept_by, value_of_given, with_response, with_write};
 
+use crate::evaluator::Evaluator;
 use crate::places::put;
 use crate::requests::{Given, given_in, requested_path, tree_of, value_of};
 use crate::responses::{evaluation_response, success};
 use dp_command::{Addressee, PropertySet, WriteRequest};
 use dp_features::Features;
-use dp_meaning::{Write, evaluation};
+use dp_meaning::Write;
 use dp_packet::{Body, ErrorCode, Response};
 use dp_state::{Path, State};
 use dp_tree::{Bundle, Expression};
@@ -85,7 +86,7 @@ fn keep(
 
 /// Evaluates an expression, and tells its value.
 #[tactic(auto, using(crate::proofs::MadeWrites::evaluation_tried))]
-fn make_evaluation(
+fn make_evaluation<E: Evaluator>(
     alloc: Global,
     bundle: &Bundle,
     features: &Features,
@@ -95,7 +96,7 @@ fn make_evaluation(
 ) -> Result<Response, ViewError>
     ensures { Makes bundle.now features.now state.old state.new to.now.command to.now.id (write.Evaluate e.now) result }
 {
-    let (value, after) = evaluation(alloc, bundle, e, state)?;
+    let (value, after) = E::evaluation(alloc, bundle, e, state)?;
     let made = evaluation_response(alloc, features, to, &value);
     keep(made, after, state)
 }
@@ -206,7 +207,7 @@ fn write_property(
 }
 
 /// eval of an expression.
-fn evaluate(
+fn evaluate<E: Evaluator>(
     alloc: Global,
     bundle: &Bundle,
     features: &Features,
@@ -219,12 +220,12 @@ fn evaluate(
     ensures { Answers bundle.now features.now state.old state.new to.now.command to.now.id
         (request.Eval text.now) result }
 {
-    let made = make_evaluation(alloc, bundle, features, state, to, &e);
+    let made = make_evaluation::<E>(alloc, bundle, features, state, to, &e);
     with_write(made, Write::Evaluate(e))
 }
 
 /// eval.
-fn write_evaluation(
+fn write_evaluation<E: Evaluator>(
     alloc: Global,
     bundle: &Bundle,
     features: &Features,
@@ -236,14 +237,14 @@ fn write_evaluation(
         (request.Eval text.now) result }
 {
     match tree_of(alloc, text) {
-        Ok(e) => evaluate(alloc, bundle, features, state, to, text, e),
+        Ok(e) => evaluate::<E>(alloc, bundle, features, state, to, text, e),
         Err(why) => Err(why),
     }
 }
 
 /// The same without what is known of responses and codes.
 #[tactic(auto, unfolding(crate::specs::Requests::requested_write, crate::specs::Responses::write_response))]
-fn make_write(
+fn make_write<E: Evaluator>(
     alloc: Global,
     bundle: &Bundle,
     features: &Features,
@@ -257,18 +258,18 @@ fn make_write(
     match request {
         WriteRequest::PropertySet(set) => write_property(alloc, bundle, features, state, to, set),
         WriteRequest::Eval { expression } => {
-            write_evaluation(alloc, bundle, features, state, to, expression.as_slice())
+            write_evaluation::<E>(alloc, bundle, features, state, to, expression.as_slice())
         }
     }
 }
 
 /// Makes the write that a command asks for in the program's state at a moment, and answers it with its response. Where
-/// it is refused, or memory runs out, the state is as before.
+/// it is refused, or memory runs out, the state is as before. `E` evaluates the expression of an eval.
 ///
 /// The codes, in their order: of property_set 3 where there is no such value, 301, 302, and 300 where the name is none,
 /// is `$this` or `$GLOBALS`, or the place cannot hold the value; of eval 206 where the text is no expression, where it
 /// does not hold, or where the text of the response would pass 16,777,216 bytes.
-pub fn write_response(
+pub fn write_response<E: Evaluator>(
     alloc: Global,
     bundle: &Bundle,
     features: &Features,
@@ -281,5 +282,5 @@ pub fn write_response(
     ensures at_once { IfSome (refusal_at_once state.old request.now) (λ code. result ≡ Err (ViewError.Code code)) }
     ensures is_sent { IfOk result (λ made. IsSent made.response) }
 {
-    make_write(alloc, bundle, features, state, to, request)
+    make_write::<E>(alloc, bundle, features, state, to, request)
 }

@@ -2,6 +2,7 @@
 #![tactic(auto)]
 
 mod commands;
+mod evaluator;
 mod places;
 mod requests;
 mod responses;
@@ -9,3 +10,4 @@ mod responses;
 pub use commands::{Written, write_response};
 pub use dp_value::Memory;
 pub use dp_view::ViewError;
+pub use evaluator::Evaluator;

@@ -1,6 +1,6 @@
 -- One small step of a machine.
 use Rattle.std.specs.Prelude.{◌≡◌, ℕ, ◌-◌, ◌<◌, ◌≤◌, Bool, true, false, if◌then◌else◌}
-use Rattle.std.specs.Prelude.{Option, Some, None, Result, Ok, Err, reverse}
+use Rattle.std.specs.Prelude.{Option, Some, None, reverse}
 use Rattle.dp_state.specs.declared.moments.MomentKind.{MomentKind}
 use Rattle.dp_state.specs.declared.moments.MomentKind.TheVariants as moment
 use Rattle.dp_state.specs.declared.moments.Outcome.{Outcome}
@@ -19,21 +19,25 @@ use Rattle.dp_actions.specs.Statements.{body_run}
 use Rattle.dp_meaning.specs.Trace.{moment_of}
 use Rattle.dp_meaning.specs.Writes.{arrived}
 use Rattle.dp_step.specs.declared.machine.Machine.{Machine}
+use Rattle.dp_step.specs.declared.machine.Came.{Came}
+use Rattle.dp_step.specs.declared.machine.Came.TheVariants as came
 use Rattle.dp_step.specs.declared.machine.Arrival.{Arrival}
 use Rattle.dp_step.specs.declared.machine.Arrival.TheVariants as arrival
 use Rattle.dp_step.specs.declared.machine.Progress.{Progress}
 use Rattle.dp_step.specs.declared.machine.Progress.TheVariants as progress
 use Rattle.dp_step_parts.specs.declared.work.Given.{Given}
 use Rattle.dp_step_parts.specs.declared.work.Given.TheVariants as given
+use Rattle.dp_step_parts.specs.declared.work.Hand.TheVariants as part
 use Rattle.dp_step_statements.specs.declared.work.Hand.{Hand}
+use Rattle.dp_step_statements.specs.declared.work.Hand.TheVariants as hand
 use Rattle.dp_step_statements.specs.declared.work.Next.{Next}
 use Rattle.dp_step_statements.specs.declared.work.Small.{Small}
 use Rattle.dp_step_statements.specs.declared.work.Waiting.{Waiting}
 use Rattle.dp_step_statements.specs.declared.work.Work.{Work}
-use Rattle.dp_step_statements.specs.Rest.{behind, hand_rest, next_rest, small_rest}
+use Rattle.dp_step_statements.specs.Rest.{hand_rest, next_rest, small_rest}
 use Rattle.dp_step_parts.specs.Rest.{Follows, to_value}
 use Rattle.dp_step_statements.specs.Rest.{waiting_rest, work_rest}
-use Rattle.dp_step.specs.Stands.{HasEnded, depth_after, pending_rest, rest_of}
+use Rattle.dp_step.specs.Stands.{HasEnded, depth_after, pending_rest, rest_of, signal_of}
 
 -- ---- what a machine has to do beside its hand
 
@@ -92,19 +96,34 @@ IsOver (Done g s) o t = (o ≡ way.Done) × (t ≡ s)
 IsOver (Over p s) o t = (o ≡ p) × (t ≡ s)
 IsOver (At kind line s go) o t = ⊥
 
-abbrev pub MovesBy : Run Signal → Result (Option (MomentKind × ℕ)) Halt → Machine → Type 0
-MovesBy run (Ok moment) m = run ≡ behind moment (rest_of m) m.state
-MovesBy run (Err halt.Memory) m = Unit {0}
-MovesBy run (Err (halt.Finished outcome)) m = IsOver run outcome m.state
-MovesBy run (Err (halt.Stopped moment)) m = ⊥
+-- it is done, and what was given last is in hand
+pub record IsDone (run : Run Signal) (m : Machine) : Type 0 where
+  pub given : Given
+  pub in_hand : m.hand ≡ hand.Part (part.Give given)
+  pub done : run ≡ Done (signal_of given) m.state
+
+abbrev pub MovesBy : Run Signal → Came → Machine → Type 0
+MovesBy run came.On m = run ≡ rest_of m m.state
+MovesBy run (came.Moment kind line) m = run ≡ At kind line m.state (rest_of m)
+MovesBy run came.Done m = IsDone run m
+MovesBy run (came.Over outcome) m = run ≡ Over outcome m.state
+MovesBy run came.Failed m = Unit {0}
 
 -- what was to be done is what the machine has to do now, at once or behind a moment, or it is over
-pub record Moves
-    (old : Machine) (run : Run Signal) (result : Result (Option (MomentKind × ℕ)) Halt)
-    (new : Machine) : Type 0 where
-  pub by : MovesBy run result new
+pub record Moves (old : Machine) (run : Run Signal) (came : Came) (new : Machine) : Type 0 where
+  pub by : MovesBy run came new
   pub same_bundle : new.bundle.now ≡ old.bundle.now
   pub same_bound : new.bound ≡ old.bound
+
+-- what a small step comes to that may lead to a moment, or is halted
+abbrev pub came_to : Option (MomentKind × ℕ) → Came
+came_to None = came.On
+came_to (Some m) = came.Moment m.0 m.1
+
+abbrev pub came_of : Halt → Came
+came_of (halt.Finished outcome) = came.Over outcome
+came_of halt.Memory = came.Failed
+came_of (halt.Stopped moment) = came.Failed
 
 -- ---- as many of them as lead to a moment, or to the end
 
@@ -117,26 +136,6 @@ pub record Arrives (old : Machine) (run : Run Signal) (arrival : Arrival) (new :
   pub by : ArrivesBy run arrival new
   pub same_bundle : new.bundle.now ≡ old.bundle.now
   pub same_bound : new.bound ≡ old.bound
-
--- one of them, which may lead to neither
-abbrev pub GoesBy : Run Signal → Option Arrival → Machine → Type 0
-GoesBy run None m = run ≡ rest_of m m.state
-GoesBy run (Some arrival) m = ArrivesBy run arrival m
-
-pub record Goes (old : Machine) (run : Run Signal) (arrival : Option Arrival) (new : Machine)
-    : Type 0 where
-  pub by : GoesBy run arrival new
-  pub same_bundle : new.bundle.now ≡ old.bundle.now
-  pub same_bound : new.bound ≡ old.bound
-
--- the moment, or the end, of a small step
-abbrev pub arrived_at : MomentKind × ℕ → Arrival
-arrived_at m = arrival.Moment m.0 m.1
-
-abbrev pub IsEnd : Halt → Option Arrival → Type 0
-IsEnd (halt.Finished outcome) came = came ≡ Some (arrival.End outcome)
-IsEnd halt.Memory came = ⊥
-IsEnd (halt.Stopped moment) came = ⊥
 
 -- ---- a moment that comes
 

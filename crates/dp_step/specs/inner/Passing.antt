@@ -1,5 +1,5 @@
 -- A machine that passes moments: what it has to do, and what was to be done before.
-use Rattle.std.specs.Prelude.{◌≡◌, ℕ, zero, suc, ◌<◌, ◌≤◌, Bool, true, List, Option, Some, None, is_some}
+use Rattle.std.specs.Prelude.{◌≡◌, ℕ, zero, suc, ◌<◌, ◌≤◌, Bool, true, List, Option, is_some}
 use Rattle.dp_state.specs.declared.moments.Outcome.{Outcome}
 use Rattle.dp_state.specs.declared.moments.Outcome.TheVariants as way
 use Rattle.dp_state.specs.declared.state.State.{State}
@@ -15,6 +15,8 @@ use Rattle.dp_quiet.specs.Quiet.{AreLoud, OnFree, is_free}
 use Rattle.dp_tree.specs.declared.bundle.Bundle.{Bundle}
 use Rattle.dp_step.specs.declared.machine.Arrival.{Arrival}
 use Rattle.dp_step.specs.declared.machine.Arrival.TheVariants as arrival
+use Rattle.dp_step.specs.declared.machine.Came.{Came}
+use Rattle.dp_step.specs.declared.machine.Came.TheVariants as came
 use Rattle.dp_step.specs.declared.machine.Machine.{Machine}
 use Rattle.dp_step.specs.declared.machine.Progress.{Progress}
 use Rattle.dp_step.specs.declared.machine.Progress.TheVariants as progress
@@ -76,9 +78,14 @@ pub record NearsBy (lines : List ℕ) (calls : Bool) (old new : Machine) : Type 
   pub same_bundle : new.bundle.now ≡ old.bundle.now
   pub same_bound : new.bound ≡ old.bound
 
-abbrev pub Nears : List ℕ → Bool → Machine → Option Arrival → Machine → Type 0
-Nears lines calls old None new = NearsBy lines calls old new
-Nears lines calls old (Some arrival) new = Approaches lines calls old arrival new
+abbrev pub Nears : List ℕ → Bool → Machine → Came → Machine → Type 0
+Nears lines calls old came.On new = NearsBy lines calls old new
+Nears lines calls old (came.Moment kind line) new =
+    Approaches lines calls old (arrival.Moment kind line) new
+Nears lines calls old came.Done new = Approaches lines calls old (arrival.End way.Done) new
+Nears lines calls old (came.Over outcome) new =
+    Approaches lines calls old (arrival.End outcome) new
+Nears lines calls old came.Failed new = Unit {0}
 
 -- the moment that comes behind them, or the end
 abbrev pub ComesBehind : Arrival → Machine → Progress → Machine → Type 0

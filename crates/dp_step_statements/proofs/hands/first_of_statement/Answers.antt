@@ -21,6 +21,10 @@ pub returns-in-Each : goal.returns-in-Each
 returns-in-Each c =
     λ setting bounded. rw c.in-Each.is (goes_as setting _ _ _ (λ k. c.each.ensures setting k c.args.state.now))
 
+pub returns-in-Choose : goal.returns-in-Choose
+returns-in-Choose c =
+    λ setting bounded. rw c.in-Choose.is (goes_as setting _ _ _ (λ k. c.choose.ensures setting k c.args.state.now))
+
 pub returns-in-Echo : goal.returns-in-Echo
 returns-in-Echo c =
     λ setting bounded. rw c.in-Echo.is (goes_as setting _ _ _ (λ k. c.echo.ensures setting k c.args.state.now))

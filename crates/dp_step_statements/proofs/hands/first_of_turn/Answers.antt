@@ -3,6 +3,14 @@ use Rattle.dp_actions.specs.Run.{and_then}
 use Rattle.dp_step_statements.proofs.MomentSteps.{goes_as}
 use Rattle.dp_step_statements.proofs.hands.first_of_turn.Goals as goal
 
+pub returns-in-Effect : goal.returns-in-Effect
+returns-in-Effect c =
+    λ setting. rw (c.in-Effect.is, c.evaluated.ensures) (goes_as setting _ _ _ (λ k. refl))
+
+pub returns-in-Returning : goal.returns-in-Returning
+returns-in-Returning c =
+    λ setting. rw (c.in-Returning.is, c.evaluated-in-Returning.ensures) (goes_as setting _ _ _ (λ k. refl))
+
 pub returns-in-Turn : goal.returns-in-Turn
 returns-in-Turn c = λ setting. rw c.in-Turn.is (goes_as setting _ _ _ (λ k. c.turn.ensures setting k c.args.state.now))
 

@@ -14,10 +14,10 @@ returns-in_default c = λ setting k s.
     (goes-off _ _ s c.in_default.not-Next)))
 
 pub returns-in-Body : goal.returns-in-Body
-returns-in-Body c = λ setting k s. rw c.in-Body.is (c.body_over.ensures setting k s)
+returns-in-Body c = λ setting k s. rw c.in-Body.is (c.turn_on.ensures setting k s)
 
 pub returns-in-DoBody : goal.returns-in-DoBody
-returns-in-DoBody c = λ setting k s. rw c.in-DoBody.is (c.do_over.ensures setting k s)
+returns-in-DoBody c = λ setting k s. rw c.in-DoBody.is (c.do_on.ensures setting k s)
 
 pub returns-in-EachBody : goal.returns-in-EachBody
-returns-in-EachBody c = λ setting k s. rw c.in-EachBody.is (c.each_over.ensures setting k s)
+returns-in-EachBody c = λ setting k s. rw c.in-EachBody.is (c.each_on.ensures setting k s)

@@ -10,4 +10,5 @@ returns-in-None c = λ setting k s.
 pub returns-in-Some : goal.returns-in-Some
 returns-in-Some c = λ setting k s.
     let read = rw c.as_slice.ensures at c.in-Some.ensures.lookup in
+    rw (c.placed.ensures, c.alone.ensures)
     (arms-first setting k s c.args.all.now c.args.at c.in-Some.first.now _ read.3.0 read.1)

@@ -12,7 +12,7 @@ use Rattle.dp_step_statements.proofs.statements.begin.Goals as goal
 pub returns-in-Expression : goal.returns-in-Expression
 unfolding and_then
 returns-in-Expression c = λ setting same k s.
-    rw (c.placed.ensures, c.evaluated.ensures)
+    rw (c.placed.ensures, c.alone.ensures)
     (placed-is setting k s _ _ _ (λ t.
     sym (and_then-assoc (evaluation c.in-Expression.e setting t) (λ v u. Done Next u) (to_signal k)))
     ∙ sym (statement-is setting k s c.args.statement.now _ c.in-Expression.is _ (kind-Expression _)))
@@ -20,7 +20,7 @@ returns-in-Expression c = λ setting same k s.
 pub returns-in-Echo : goal.returns-in-Echo
 unfolding and_then
 returns-in-Echo c = λ setting same k s.
-    rw (c.placed-in-Echo.ensures, c.alone.ensures)
+    rw (c.placed-in-Echo.ensures, c.alone-in-Echo.ensures)
     (sym (statement-is setting k s c.args.statement.now _ c.in-Echo.is _ (kind-Echo _)))
 
 pub returns-in-Block : goal.returns-in-Block
@@ -58,7 +58,7 @@ returns-in-For c = λ setting same k s.
 
 pub returns-in-Foreach : goal.returns-in-Foreach
 returns-in-Foreach c = λ setting same k s.
-    rw (c.placed-in-Foreach.ensures, c.evaluated-in-Foreach.ensures)
+    rw (c.placed-in-Foreach.ensures, c.evaluated.ensures)
     (placed-is setting k s _ _ _ (λ t. sym (and_then-assoc _ _ _))
     ∙ sym (statement-is setting k s c.args.statement.now _ c.in-Foreach.is _ (kind-Foreach _ _ _)))
 

@@ -13,4 +13,4 @@ returns-in-None c = λ setting k s. rw (c.in-None.is, c.signal.ensures) refl
 pub returns-in-Some : goal.returns-in-Some
 unfolding and_then
 returns-in-Some c = λ setting k s.
-    rw c.in-Some.is (sym (and_then-assoc (evaluation c.in-Some.e setting s) returning (to_signal k)))
+    rw (c.in-Some.is, c.alone.ensures) (sym (and_then-assoc (evaluation c.in-Some.e setting s) returning (to_signal k)))

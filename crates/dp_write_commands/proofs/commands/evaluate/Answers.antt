@@ -6,7 +6,7 @@ use Rattle.dp_write_commands.proofs.RequestedWrites.{evaluation_is, tried}
 use Rattle.dp_write_commands.proofs.commands.evaluate.Goals as goal
 
 pub returns : goal.returns
-returns c =
+returns g c =
     let text = c.args.text.now in
     let before = c.args.state.now in
     let command = c.args.to.now.command in

@@ -14,12 +14,28 @@ loop-preserved c = λ are_loud.
     let here = subst (λ (b : Bundle). AreLoud c.args.lines.now b (option_copied c.args.loud))
     (sym way.same_bundle) are_loud in
     nears-on c.args.lines.now (is_some (option_copied c.args.loud)) c.args.self.now c.loop.self c.nearer.new.self way
-    (rw c.in-None.is at (c.in_ok-nearer.ensures here))
+    (rw c.in-On.is at (c.nearer.ensures here))
 
-pub returns-in-Some : goal.returns-in-Some
-returns-in-Some c = λ are_loud.
+pub returns-in-Moment : goal.returns-in-Moment
+returns-in-Moment c = λ are_loud.
     let way = c.loop.invariant are_loud in
     let here = subst (λ (b : Bundle). AreLoud c.args.lines.now b (option_copied c.args.loud))
     (sym way.same_bundle) are_loud in
     nears-there c.args.lines.now (is_some (option_copied c.args.loud)) c.args.self.now c.loop.self c.nearer.new.self way
-    c.in-Some.arrival (rw c.in-Some.is at (c.in_ok-nearer.ensures here))
+    _ (rw c.in-Moment.is at (c.nearer.ensures here))
+
+pub returns-in-Done : goal.returns-in-Done
+returns-in-Done c = λ are_loud.
+    let way = c.loop.invariant are_loud in
+    let here = subst (λ (b : Bundle). AreLoud c.args.lines.now b (option_copied c.args.loud))
+    (sym way.same_bundle) are_loud in
+    nears-there c.args.lines.now (is_some (option_copied c.args.loud)) c.args.self.now c.loop.self c.nearer.new.self way
+    _ (rw c.in-Done.is at (c.nearer.ensures here))
+
+pub returns-in-Over : goal.returns-in-Over
+returns-in-Over c = λ are_loud.
+    let way = c.loop.invariant are_loud in
+    let here = subst (λ (b : Bundle). AreLoud c.args.lines.now b (option_copied c.args.loud))
+    (sym way.same_bundle) are_loud in
+    nears-there c.args.lines.now (is_some (option_copied c.args.loud)) c.args.self.now c.loop.self c.nearer.new.self way
+    _ (rw c.in-Over.is at (c.nearer.ensures here))

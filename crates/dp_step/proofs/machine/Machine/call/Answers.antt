@@ -1,14 +1,14 @@
 use Rattle.std.proofs.Common.{refl, ◌∙◌}
 use Rattle.dp_step.specs.inner.Moves.{body_with}
 use Rattle.dp_step_parts.proofs.AtOnce.{then_done}
-use Rattle.dp_step.proofs.Smalls.{call-first, moves_as, over-is, taken-moves, too_deep-call}
+use Rattle.dp_step.proofs.Smalls.{call-first, moves_as, taken-moves, too_deep-call}
 use Rattle.dp_step.proofs.machine.Machine.call.Goals as goal
 
 pub returns-then-self-eq0 : goal.returns-then-self-eq0
 returns-then-self-eq0 c =
     let m = c.args.self.now in record {
-      by = rw c.fatal.ensures (over-is _ _ m.state (too_deep-call m m.state c.if-self-eq0.true c.args.file
-          c.args.function.now c.args.values));
+      by = rw (c.halted.ensures, c.fatal.ensures) (too_deep-call m m.state c.if-self-eq0.true c.args.file
+          c.args.function.now c.args.values);
       same_bundle = refl;
       same_bound = refl;
     }
@@ -24,5 +24,6 @@ pub returns-in-Err : goal.returns-in-Err
 returns-in-Err c =
     let m = c.args.self.now in
     taken-moves m _ _ _ (λ _ t. body_with m c.args.function.now t) c.in-Err.why c.enter_call.new.state
-    (call-first m m.state c.if-self-eq0.false c.args.file c.args.function.now c.args.values) refl refl refl
+    _ c.halted-in-Err.ensures (call-first m m.state c.if-self-eq0.false c.args.file c.args.function.now c.args.values)
+    refl refl refl
     c.in-Err.ensures

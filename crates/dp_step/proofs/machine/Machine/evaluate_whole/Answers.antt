@@ -16,5 +16,5 @@ returns-in-Ok c =
 pub returns-in-Err : goal.returns-in-Err
 returns-in-Err c =
     let m = c.args.self.now in
-    taken-moves m _ _ (evaluation c.args.e.now (setting_at m) m.state) (to_value (follows_of m)) c.in-Err.why _ refl
-    refl refl refl (rw (c.in-Err.is, c.whole.ensures) at c.value.ensures)
+    taken-moves m _ _ (evaluation c.args.e.now (setting_at m) m.state) (to_value (follows_of m)) c.in-Err.why _ _
+    c.halted.ensures refl refl refl refl (rw (c.in-Err.is, c.whole.ensures) at c.value.ensures)

@@ -14,7 +14,7 @@ returns-in-Ok c =
 pub returns-in-Err : goal.returns-in-Err
 returns-in-Err c =
     let m = c.args.self.now in record {
-      by = moves_off (setting_at m) _ c.in-Err.why c.first_of.new.state (follows_of m) _ refl
+      by = moves_off (setting_at m) _ c.in-Err.why c.first_of.new.state (follows_of m) _ _ c.halted.ensures refl
           (rw c.in-Err.is at (c.first_of.ensures (setting_at m) (setting-bundle m.bundle.now m.bound m.depth)
           (setting-bound m.bundle.now m.bound m.depth)));
       same_bundle = refl;

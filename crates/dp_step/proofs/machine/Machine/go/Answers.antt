@@ -1,12 +1,15 @@
-use Rattle.std.proofs.lemmas.Result.{IfOk-weaker}
-use Rattle.dp_step.proofs.MachineSteps.{goes-by, goes-end}
+use Rattle.std.proofs.Common.{refl}
+use Rattle.dp_step.proofs.Smalls.{moves_hand}
 use Rattle.dp_step.proofs.machine.Machine.go.Goals as goal
 
-pub returns-in-Ok : goal.returns-in-Ok
-returns-in-Ok c =
-    goes-by c.args.self.now c.small.new.self _ c.in-Ok.moment _ c.arrival_of.ensures (rw c.in-Ok.is at c.small.ensures)
+pub returns-in-Effect : goal.returns-in-Effect
+returns-in-Effect c = moves_hand c.args.self.now _ _ _ _ c.in-Effect.is refl refl c.effect.ensures
 
-pub returns-in-Err : goal.returns-in-Err
-returns-in-Err c =
-    IfOk-weaker c.ended.result _ _ (λ came h. goes-end c.args.self.now c.small.new.self _ c.in-Err.why came h
-    (rw c.in-Err.is at c.small.ensures)) c.ended.ensures
+pub returns-in-Returning : goal.returns-in-Returning
+returns-in-Returning c = moves_hand c.args.self.now _ _ _ _ c.in-Returning.is refl refl c.returning.ensures
+
+pub returns-in-Choose : goal.returns-in-Choose
+returns-in-Choose c = moves_hand c.args.self.now _ _ _ _ c.in-Choose.is refl refl c.choose.ensures
+
+pub returns-in-Arms : goal.returns-in-Arms
+returns-in-Arms c = moves_hand c.args.self.now _ _ _ _ c.in-Arms.is refl refl c.arms.ensures

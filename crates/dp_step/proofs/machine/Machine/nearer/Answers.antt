@@ -1,5 +1,4 @@
 use Rattle.std.proofs.Common.{is_some}
-use Rattle.std.proofs.lemmas.Result.{IfOk-weaker}
 use Rattle.std.specs.Option.{option_copied}
 use Rattle.dp_step.proofs.PassedWays.{small-nears}
 use Rattle.dp_step.proofs.machine.Machine.nearer.Goals as goal
@@ -10,6 +9,4 @@ returns-in-Some c = λ are_loud.
 
 pub returns-in-None : goal.returns-in-None
 returns-in-None c = λ are_loud.
-    IfOk-weaker c.go.result _ _ (λ came goes.
-    small-nears c.args.lines.now (is_some (option_copied c.args.loud)) c.args.self.now c.go.new.self came goes)
-    c.go.ensures
+    small-nears c.args.lines.now (is_some (option_copied c.args.loud)) c.args.self.now c.go.new.self _ c.go.ensures

@@ -14,5 +14,9 @@ pub returns-in-Include : goal.returns-in-Include
 returns-in-Include c =
     moves_hand c.args.self.now _ _ _ _ (sym c.replace.ensures.value ∙ c.in-Include.is) refl refl c.include.ensures
 
+pub returns-in-Left : goal.returns-in-Left
+returns-in-Left c =
+    moves_hand c.args.self.now _ _ _ _ (sym c.replace.ensures.value ∙ c.in-Left.is) refl refl c.left.ensures
+
 pub returns-in_default : goal.returns-in_default
 returns-in_default c = moves_hand c.args.self.now _ _ _ _ (sym c.replace.ensures.value) refl refl c.first.ensures

@@ -6,8 +6,9 @@ use Rattle.dp_step.proofs.machine.Machine.take.Goals as goal
 pub returns-in-None : goal.returns-in-None
 returns-in-None c =
     let m = c.args.self.now in record {
-      by = nothing-left m m.state c.pop.new.self.items c.args.given m.state (rw c.in-None.is at c.pop.ensures.items)
-          (c.pop.ensures.rest ∙ ap (λ n. take (n - 1) m.pending.items) (rw c.in-None.is at c.pop.ensures.cases).0);
+      by = nothing-left m m.state c.pop.new.self.items c.args.given _ (rw c.in-None.is at c.pop.ensures.items)
+          (c.pop.ensures.rest ∙ ap (λ n. take (n - 1) m.pending.items) (rw c.in-None.is at c.pop.ensures.cases).0)
+          c.put_hand.ensures refl;
       same_bundle = refl;
       same_bound = refl;
     }

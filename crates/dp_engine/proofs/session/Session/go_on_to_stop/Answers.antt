@@ -3,7 +3,7 @@ use Rattle.dp_engine.specs.declared.states.Phase.TheVariants.{Stopping}
 use Rattle.dp_engine.specs.Stops.{stops}
 use Rattle.dp_engine.specs.inner.Position.{phase_of}
 use Rattle.dp_engine.proofs.TurnLaws.{comes_later, counts_out, counts_to, goes_out, goes_to, machine_there, nothing_kept}
-use Rattle.dp_engine.proofs.session.Session.run_on.Goals as goal
+use Rattle.dp_engine.proofs.session.Session.go_on_to_stop.Goals as goal
 
 pub invariant_of-self-in-Moment : goal.invariant_of-self-in-Moment
 invariant_of-self-in-Moment g c =

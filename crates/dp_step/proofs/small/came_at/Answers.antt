@@ -1,5 +1,5 @@
 use Rattle.std.proofs.Common.{refl}
-use Rattle.dp_step.proofs.machine.arrival_of.Goals as goal
+use Rattle.dp_step.proofs.small.came_at.Goals as goal
 
 pub returns-in-None : goal.returns-in-None
 returns-in-None c = rw c.in-None.is refl

@@ -1,0 +1,348 @@
+//! Small steps with statements, which move nothing large: what is in hand is looked at where it is, and what is done
+//! next is written where it stands. A function has no large local, since each is cleared where the function begins,
+//! whichever way it goes.
+
+ghost use Rattle.std.specs.Prelude.{◌≡◌, IfSome, true};
+ghost use Rattle.dp_actions.specs.declared.signal.Signal.TheVariants.{Next as NextSignal};
+ghost use Rattle.dp_step_parts.specs.declared.work.Given.TheVariants as any_given;
+ghost use Rattle.dp_step_parts.specs.declared.work.Hand.TheVariants as any_part;
+ghost use Rattle.dp_step_statements.specs.declared.work.Hand.TheVariants as any_hand;
+
+use crate::machine::{Came, Machine, halted};
+use crate::small::put_hand;
+use dp_actions::{Signal, holds};
+use dp_meaning::is_momentless;
+use dp_state::MomentKind;
+use dp_step_parts::{Given, Hand as PartHand};
+use dp_step_statements::{AfterValue, ForSignal, Hand, Waiting, Work, begin};
+use dp_tree::{Arm, Boxed, Expression, Statement, StatementKind};
+use dp_value::{Items, Value};
+
+impl<'p> Machine<'p> {
+    ghost use Rattle.std.specs.Prelude.{[], Some};
+    ghost use Rattle.dp_actions.specs.Run.{At};
+    ghost use Rattle.dp_actions.specs.Statements.{return_run, statement_run};
+    ghost use Rattle.dp_actions.specs.declared.signal.Signal.TheVariants.{Next as NextSignal};
+    ghost use Rattle.dp_state.specs.declared.moments.MomentKind.TheVariants as any_moment;
+    ghost use Rattle.dp_step.specs.Stands.{rest_of};
+    ghost use Rattle.dp_step.specs.inner.Leaps.{part_with};
+    ghost use Rattle.dp_step.specs.inner.Moves.{Moves, next_with, rest_with};
+    ghost use Rattle.dp_step_parts.specs.declared.work.Given.TheVariants as any_given;
+    ghost use Rattle.dp_step_statements.specs.Rest.{arms_part};
+    ghost use Rattle.dp_step_statements.specs.declared.work.Hand.TheVariants as any_hand;
+
+    /// A small step.
+    pub(crate) fn go(&mut self) -> Came
+        ensures { Moves self.old (rest_of self.old self.old.state) result self.new }
+    {
+        match &self.hand {
+            Hand::Effect(e) => {
+                let e = *e;
+                self.effect(e)
+            }
+            Hand::Returning(e) => {
+                let e = *e;
+                self.returning(e)
+            }
+            Hand::Choose(all, at, otherwise) => {
+                let all = *all;
+                let at = *at;
+                let otherwise = *otherwise;
+                self.choose(all, at, otherwise)
+            }
+            Hand::Arms(all, at, otherwise) => {
+                let all = *all;
+                let at = *at;
+                let otherwise = *otherwise;
+                self.arms(all, at, otherwise)
+            }
+            _ => self.go_by_statement(),
+        }
+    }
+
+    /// A small step by the statement that is in hand, if one is.
+    fn go_by_statement(&mut self) -> Came
+        ensures { Moves self.old (rest_of self.old self.old.state) result self.new }
+    {
+        match &self.hand {
+            Hand::Run(statement) => {
+                let statement = *statement;
+                self.begin(statement.as_ref())
+            }
+            Hand::RunAt(all, at) => {
+                let all = *all;
+                let at = *at;
+                self.begin_at(all, at)
+            }
+            Hand::RunArm(all, at) => {
+                let all = *all;
+                let at = *at;
+                self.begin_arm(all, at)
+            }
+            Hand::Each(all, at) => {
+                let all = *all;
+                let at = *at;
+                self.each(all, at)
+            }
+            Hand::Part(_) => self.go_by_part(),
+            _ => self.small(),
+        }
+    }
+
+    /// A small step by the part of an expression that is in hand.
+    fn go_by_part(&mut self) -> Came
+        ensures { Moves self.old (rest_of self.old self.old.state) result self.new }
+    {
+        match expression_in(&self.hand) {
+            Some(e) => self.evaluate_whole(e),
+            None => {
+                if is_next(&self.hand) {
+                    self.on()
+                } else {
+                    self.small()
+                }
+            }
+        }
+    }
+
+    /// This is in hand.
+    pub(crate) fn put(&mut self, hand: Hand<'p>) -> Came
+        ensures { Moves self.old (rest_with self.old hand.entry self.old.state) result self.new }
+    {
+        put_hand(&mut self.hand, hand);
+        Came::On
+    }
+
+    /// This is in hand, and this waits for it.
+    fn wait(&mut self, hand: Hand<'p>, work: Work<'p>) -> Came
+        ensures { Moves self.old (next_with self.old (record { hand = hand.entry; waits = Some work.entry })
+            self.old.state) result self.new }
+    {
+        match self.hold_both(hand, Waiting::Part(work)) {
+            Ok(()) => Came::On,
+            Err(_) => Came::Failed,
+        }
+    }
+
+    /// This is in hand, behind a moment on this line.
+    pub(crate) fn placed(&mut self, line: u32, hand: Hand<'p>) -> Came
+        ensures { Moves self.old (At any_moment.Place line self.old.state (rest_with self.old hand.entry)) result
+            self.new }
+    {
+        put_hand(&mut self.hand, hand);
+        Came::Moment(MomentKind::Place, line)
+    }
+
+    /// The beginning of a statement.
+    fn begin(&mut self, statement: &'p Statement) -> Came
+        ensures { Moves self.old (part_with self.old (statement_run statement.now) self.old.state) result self.new }
+    {
+        match &statement.kind {
+            StatementKind::Expression(e) => self.placed(statement.line, Hand::Effect(e)),
+            StatementKind::Block(all) => self.each(all, 0),
+            StatementKind::Empty => self.on(),
+            StatementKind::If { arms, otherwise } => self.arms(arms, 0, otherwise),
+            StatementKind::Return(value) => self.begin_return(statement.line, value),
+            _ => self.begin_large(statement),
+        }
+    }
+
+    /// The beginning of a `return` on this line.
+    fn begin_return(&mut self, line: u32, value: &'p Option<Expression>) -> Came
+        ensures { Moves self.old (At any_moment.Place line self.old.state
+            (λ s. part_with self.old (return_run value.now) s)) result self.new }
+    {
+        match value {
+            None => {
+                let given = Given::Signal(Signal::Return(Value::Null));
+                self.placed(line, Hand::Part(PartHand::Give(given)))
+            }
+            Some(e) => self.placed(line, Hand::Returning(e)),
+        }
+    }
+
+    /// The same of a statement whose beginning moves what is in hand.
+    fn begin_large(&mut self, statement: &'p Statement) -> Came
+        ensures { Moves self.old (part_with self.old (statement_run statement.now) self.old.state) result self.new }
+    {
+        self.keep(begin(self.alloc, self.bound, statement))
+    }
+
+    /// The statement at a position.
+    fn begin_at(&mut self, all: &'p Items<Statement>, at: usize) -> Came
+        ensures { Moves self.old (rest_with self.old (any_hand.RunAt all.entry at) self.old.state) result self.new }
+    {
+        match all.as_slice().get(at) {
+            None => self.on(),
+            Some(statement) => self.begin(statement),
+        }
+    }
+
+    /// The body of the arm at a position.
+    fn begin_arm(&mut self, all: &'p Items<Arm>, at: usize) -> Came
+        ensures { Moves self.old (rest_with self.old (any_hand.RunArm all.entry at) self.old.state) result self.new }
+    {
+        match all.as_slice().get(at) {
+            None => self.on(),
+            Some(arm) => self.begin(&arm.body),
+        }
+    }
+
+    /// Statements from a position on, one after another. Nothing waits for the last of them.
+    fn each(&mut self, all: &'p Items<Statement>, at: usize) -> Came
+        ensures { Moves self.old (rest_with self.old (any_hand.Each all.entry at) self.old.state) result self.new }
+    {
+        match all.as_slice().get(at) {
+            None => self.on(),
+            Some(_) => {
+                if at + 1 < all.as_slice().len() {
+                    let rest = ForSignal::Rest(all, at + 1);
+                    self.wait(Hand::RunAt(all, at), Work::ForSignal(rest))
+                } else {
+                    self.put(Hand::RunAt(all, at))
+                }
+            }
+        }
+    }
+
+    /// The arms of an `if` from a position on, and what is done where no test holds.
+    fn arms(
+        &mut self,
+        all: &'p Items<Arm>,
+        at: usize,
+        otherwise: &'p Option<Boxed<Statement>>,
+    ) -> Came
+        ensures { Moves self.old (rest_with self.old (any_hand.Arms all.entry at otherwise.entry) self.old.state) result
+            self.new }
+    {
+        match all.as_slice().get(at) {
+            None => self.without_arm(otherwise),
+            Some(first) => self.placed(first.line, Hand::Choose(all, at, otherwise)),
+        }
+    }
+
+    /// What an `if` does where no test holds.
+    fn without_arm(&mut self, otherwise: &'p Option<Boxed<Statement>>) -> Came
+        ensures { Moves self.old (part_with self.old (arms_part [] otherwise.now) self.old.state) result self.new }
+    {
+        match otherwise {
+            None => self.on(),
+            Some(statement) => self.put(Hand::Run(statement)),
+        }
+    }
+
+    /// The test of the arm at a position, whose moment has come.
+    fn choose(
+        &mut self,
+        all: &'p Items<Arm>,
+        at: usize,
+        otherwise: &'p Option<Boxed<Statement>>,
+    ) -> Came
+        ensures { Moves self.old (rest_with self.old (any_hand.Choose all.entry at otherwise.entry) self.old.state)
+            result self.new }
+    {
+        match all.as_slice().get(at) {
+            None => self.on(),
+            Some(first) => {
+                if !is_momentless(&first.test) {
+                    return self.first(Hand::Choose(all, at, otherwise));
+                }
+                match self.whole().value(&first.test, &mut self.state) {
+                    Ok(value) => {
+                        if holds(value) {
+                            self.put(Hand::RunArm(all, at))
+                        } else {
+                            self.arms(all, at + 1, otherwise)
+                        }
+                    }
+                    Err(why) => halted(why),
+                }
+            }
+        }
+    }
+
+    /// An expression as a statement, whose moment has come.
+    fn effect(&mut self, e: &'p Expression) -> Came
+        ensures { Moves self.old (rest_with self.old (any_hand.Effect e.entry) self.old.state) result self.new }
+    {
+        if !is_momentless(e) {
+            return self.wait(
+                Hand::Part(PartHand::Evaluate(e)),
+                Work::AfterValue(AfterValue::Discard),
+            );
+        }
+        match self.whole().value(e, &mut self.state) {
+            Ok(value) => {
+                drop(value);
+                self.on()
+            }
+            Err(why) => halted(why),
+        }
+    }
+
+    /// The value of a `return`, whose moment has come.
+    fn returning(&mut self, e: &'p Expression) -> Came
+        ensures { Moves self.old (rest_with self.old (any_hand.Returning e.entry) self.old.state) result self.new }
+    {
+        if !is_momentless(e) {
+            return self.wait(
+                Hand::Part(PartHand::Evaluate(e)),
+                Work::AfterValue(AfterValue::ReturnIt),
+            );
+        }
+        match self.whole().value(e, &mut self.state) {
+            Ok(value) => self.take(Given::Signal(Signal::Return(value))),
+            Err(why) => halted(why),
+        }
+    }
+}
+
+/// The expression that is in hand, if one is.
+fn expression_in<'p>(hand: &Hand<'p>) -> Option<&'p Expression>
+    ensures { IfSome result (λ e. hand.now ≡ any_hand.Part (any_part.Evaluate e)) }
+{
+    match hand {
+        Hand::Part(part) => evaluated_by(part),
+        _ => None,
+    }
+}
+
+/// The expression that is evaluated, if one is.
+fn evaluated_by<'p>(part: &PartHand<'p>) -> Option<&'p Expression>
+    ensures { IfSome result (λ e. part.now ≡ any_part.Evaluate e) }
+{
+    match part {
+        PartHand::Evaluate(e) => Some(*e),
+        _ => None,
+    }
+}
+
+/// Whether the signal to go on is in hand.
+fn is_next(hand: &Hand<'_>) -> bool
+    ensures { result ≡ true → hand.now ≡ any_hand.Part (any_part.Give (any_given.Signal NextSignal)) }
+{
+    match hand {
+        Hand::Part(part) => is_next_given(part),
+        _ => false,
+    }
+}
+
+/// Whether that is given.
+fn is_next_given(part: &PartHand<'_>) -> bool
+    ensures { result ≡ true → part.now ≡ any_part.Give (any_given.Signal NextSignal) }
+{
+    match part {
+        PartHand::Give(given) => is_next_signal(given),
+        _ => false,
+    }
+}
+
+/// Whether it is that.
+fn is_next_signal(given: &Given) -> bool
+    ensures { result ≡ true → given.now ≡ any_given.Signal NextSignal }
+{
+    match given {
+        Given::Signal(signal) => matches!(signal, Signal::Next),
+        _ => false,
+    }
+}

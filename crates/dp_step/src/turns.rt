@@ -1,0 +1,476 @@
+//! Small steps with the statements and the loops that wait: the innermost item of the pending work is looked at where
+//! it is, and its numbers are changed where they stand. A function has no large local, as in the steps with statements.
+
+ghost use Rattle.std.specs.Prelude.{◌≡◌, ℕ, Bool, List};
+ghost use Rattle.dp_step_statements.specs.declared.work.DoTurns.{DoTurns as AnyDoTurns};
+ghost use Rattle.dp_step_statements.specs.declared.work.EachTurns.{EachTurns as AnyEachTurns};
+ghost use Rattle.dp_step_statements.specs.declared.work.ForSignal.TheVariants as any_signal_work;
+ghost use Rattle.dp_step_statements.specs.declared.work.Turns.{Turns as AnyTurns};
+ghost use Rattle.dp_step_statements.specs.declared.work.Waiting.{Waiting as AnyWaiting};
+ghost use Rattle.dp_step.specs.inner.Innermost.{StatementList, waiting_for, waits_for};
+ghost use Rattle.dp_value.specs.declared.value.Value.{Value as AnyValue};
+
+use crate::machine::{Came, Machine, halted};
+use dp_actions::{Signal, holds, last_holds};
+use dp_meaning::{all_momentless, is_momentless};
+use dp_state::Outcome;
+use dp_step_parts::{Given, Hand as PartHand};
+use dp_step_statements::{
+    DoTurns, EachTurns, ForSignal, Hand, Head, Turns, Waiting, Work, bind_at, entry_count,
+};
+use dp_tree::{Expression, Statement};
+use dp_value::Items;
+
+impl<'p> Machine<'p> {
+    ghost use Rattle.std.specs.Prelude.{◌≡◌, ◌-◌, ◌<◌, ◌^◌, ℕ, true, false, List, drop, length};
+    ghost use Rattle.std.specs.List.{list_all};
+    ghost use Rattle.dp_actions.specs.Expressions.{evaluation, evaluations};
+    ghost use Rattle.dp_actions.specs.Loops.{entries};
+    ghost use Rattle.dp_actions.specs.Run.{and_then};
+    ghost use Rattle.dp_actions.specs.Values.{holds as is_true};
+    ghost use Rattle.dp_actions.specs.declared.signal.Signal.TheVariants.{Next as NextSignal};
+    ghost use Rattle.dp_meaning.specs.Momentless.{is_momentless as has_no_moment};
+    ghost use Rattle.dp_step.specs.inner.Moves.{Moves, follows_of, setting_at};
+    ghost use Rattle.dp_step.specs.inner.Innermost.{IsEachBody, IsInnermost, over, waits_for};
+    ghost use Rattle.dp_step_parts.specs.Rest.{to_signal};
+    ghost use Rattle.dp_step_parts.specs.declared.work.Given.TheVariants as any_given;
+    ghost use Rattle.dp_step_statements.specs.Rest.{do_decided, do_turns_of, each_turn};
+    ghost use Rattle.dp_step_statements.specs.Rest.{turns_decided, turns_of, turns_tested};
+    ghost use Rattle.dp_step_statements.specs.declared.work.ForSignal.TheVariants as any_signal_work;
+    ghost use Rattle.dp_step_statements.specs.declared.work.Waiting.{Waiting as AnyWaiting};
+    ghost use Rattle.dp_value.specs.declared.value.Value.{Value as AnyValue};
+
+    /// On with what waits.
+    pub(crate) fn on(&mut self) -> Came
+        ensures { Moves self.old (follows_of self.old (any_given.Signal NextSignal) self.old.state) result self.new }
+    {
+        match self.pending.last() {
+            Some(Waiting::Part(Work::ForSignal(ForSignal::Rest(all, at)))) => {
+                let all = *all;
+                let at = *at;
+                self.rest(all, at)
+            }
+            Some(Waiting::Part(Work::ForSignal(ForSignal::Body(turns, left, due)))) => {
+                let turns = *turns;
+                let left = *left;
+                let due = *due;
+                self.turn_on(turns, left, due)
+            }
+            Some(Waiting::Part(Work::ForSignal(ForSignal::DoBody(turns, left, due)))) => {
+                let turns = *turns;
+                let left = *left;
+                let due = *due;
+                self.do_on(turns, left, due)
+            }
+            Some(Waiting::Part(Work::ForSignal(ForSignal::EachBody(turns, subject, at, due)))) => {
+                let turns = *turns;
+                let count = entry_count(subject);
+                let at = *at;
+                let due = *due;
+                self.each_on(turns, count, at, due)
+            }
+            _ => self.take(Given::Signal(Signal::Next)),
+        }
+    }
+
+    /// On with what waits, which is in hand as the signal to go on.
+    fn next(&mut self) -> Came
+        ensures { Moves self.old (follows_of self.old (any_given.Signal NextSignal) self.old.state) result self.new }
+    {
+        self.put(Hand::Part(PartHand::Give(Given::Signal(Signal::Next))))
+    }
+
+    /// The statement at a position, and then those behind it. Nothing waits for the last of them.
+    fn rest(&mut self, all: &'p Items<Statement>, at: usize) -> Came
+        requires { IsInnermost self.old (any_signal_work.Rest all at) }
+        ensures { Moves self.old (follows_of self.old (any_given.Signal NextSignal) self.old.state) result self.new }
+    {
+        match all.as_slice().get(at) {
+            None => {
+                drop(self.pending.pop());
+                self.next()
+            }
+            Some(_) => {
+                if at + 1 < all.as_slice().len() {
+                    put_position(&mut self.pending, at + 1);
+                    self.put(Hand::RunAt(all, at))
+                } else {
+                    drop(self.pending.pop());
+                    self.put(Hand::RunAt(all, at))
+                }
+            }
+        }
+    }
+
+    /// A turn of a `while` or a `for` is over, or its moment has come.
+    fn turn_on(&mut self, turns: Turns<'p>, left: u64, due: bool) -> Came
+        requires { IsInnermost self.old (any_signal_work.Body turns left due) }
+        ensures { Moves self.old (follows_of self.old (any_given.Signal NextSignal) self.old.state) result self.new }
+    {
+        if due {
+            self.turn_due(turns, left)
+        } else {
+            self.turn_over(turns, left)
+        }
+    }
+
+    /// The moment of a turn has come, and its tests are due.
+    fn turn_due(&mut self, turns: Turns<'p>, left: u64) -> Came
+        requires { IsInnermost self.old (any_signal_work.Body turns left true) }
+        ensures { Moves self.old (follows_of self.old (any_given.Signal NextSignal) self.old.state) result self.new }
+    {
+        match turns.head {
+            Head::While(test) => {
+                if is_momentless(test) {
+                    self.test(turns, left, test)
+                } else {
+                    self.take(Given::Signal(Signal::Next))
+                }
+            }
+            Head::For(tests, _) => {
+                if all_momentless(tests.as_slice()) {
+                    self.tests(turns, left, tests)
+                } else {
+                    self.take(Given::Signal(Signal::Next))
+                }
+            }
+        }
+    }
+
+    /// The test of a turn of a `while`.
+    fn test(&mut self, turns: Turns<'p>, left: u64, test: &'p Expression) -> Came
+        requires { has_no_moment test.now ≡ true }
+        ensures { (below : List AnyWaiting)
+            → self.old.pending.items ≡ waits_for below (any_signal_work.Body turns.entry left true)
+            → Moves self.old (and_then (evaluation test.now (setting_at self.old) self.old.state)
+            (λ v t. and_then (turns_decided (setting_at self.old) turns.entry left (is_true v) t)
+            (to_signal (over self.old below)))) result self.new }
+    {
+        match self.whole().value(test, &mut self.state) {
+            Ok(value) => self.decide(turns, left, holds(value)),
+            Err(why) => halted(why),
+        }
+    }
+
+    /// The tests of a turn of a `for`.
+    fn tests(&mut self, turns: Turns<'p>, left: u64, tests: &'p Items<Expression>) -> Came
+        requires { list_all has_no_moment tests.now ≡ true }
+        ensures { (below : List AnyWaiting)
+            → self.old.pending.items ≡ waits_for below (any_signal_work.Body turns.entry left true)
+            → Moves self.old (and_then (evaluations tests.now (setting_at self.old) self.old.state)
+            (λ values t. and_then (turns_tested (setting_at self.old) turns.entry left values t)
+            (to_signal (over self.old below)))) result self.new }
+    {
+        let all = tests.as_slice();
+        if let [test] = all {
+            return self.test(turns, left, test);
+        }
+        match self.whole().values(all, &mut self.state) {
+            Ok(values) => {
+                let held = last_holds(values.as_slice());
+                drop(values);
+                self.decide(turns, left, held)
+            }
+            Err(why) => halted(why),
+        }
+    }
+
+    /// A turn whose tests are evaluated.
+    fn decide(&mut self, turns: Turns<'p>, left: u64, held: bool) -> Came
+        ensures { (below : List AnyWaiting)
+            → self.old.pending.items ≡ waits_for below (any_signal_work.Body turns.entry left true)
+            → Moves self.old (and_then (turns_decided (setting_at self.old) turns.entry left held self.old.state)
+            (to_signal (over self.old below))) result self.new }
+    {
+        if held {
+            put_turn(&mut self.pending, left, false);
+            self.put(Hand::Run(turns.body))
+        } else {
+            drop(self.pending.pop());
+            self.next()
+        }
+    }
+
+    /// The body of a turn is over, and what comes between two turns is due.
+    fn turn_over(&mut self, turns: Turns<'p>, left: u64) -> Came
+        requires { IsInnermost self.old (any_signal_work.Body turns left false) }
+        ensures { Moves self.old (follows_of self.old (any_given.Signal NextSignal) self.old.state) result self.new }
+    {
+        match turns.head {
+            Head::While(_) => self.turn(turns, left),
+            Head::For(_, after) => {
+                if all_momentless(after.as_slice()) {
+                    self.after(turns, left, after)
+                } else {
+                    self.take(Given::Signal(Signal::Next))
+                }
+            }
+        }
+    }
+
+    /// What comes between two turns of a `for`, and then the moment of the next one.
+    fn after(&mut self, turns: Turns<'p>, left: u64, after: &'p Items<Expression>) -> Came
+        requires { list_all has_no_moment after.now ≡ true }
+        ensures { (below : List AnyWaiting)
+            → self.old.pending.items ≡ waits_for below (any_signal_work.Body turns.entry left false)
+            → Moves self.old (and_then (evaluations after.now (setting_at self.old) self.old.state)
+            (λ values t. and_then (turns_of (setting_at self.old) turns.entry left t)
+            (to_signal (over self.old below)))) result self.new }
+    {
+        let all = after.as_slice();
+        if let [e] = all {
+            return self.after_one(turns, left, e);
+        }
+        match self.whole().values(all, &mut self.state) {
+            Ok(values) => {
+                drop(values);
+                self.turn(turns, left)
+            }
+            Err(why) => halted(why),
+        }
+    }
+
+    /// The same of one expression.
+    fn after_one(&mut self, turns: Turns<'p>, left: u64, e: &'p Expression) -> Came
+        requires { has_no_moment e.now ≡ true }
+        ensures { (below : List AnyWaiting)
+            → self.old.pending.items ≡ waits_for below (any_signal_work.Body turns.entry left false)
+            → Moves self.old (and_then (evaluation e.now (setting_at self.old) self.old.state)
+            (λ v t. and_then (turns_of (setting_at self.old) turns.entry left t)
+            (to_signal (over self.old below)))) result self.new }
+    {
+        match self.whole().value(e, &mut self.state) {
+            Ok(value) => {
+                drop(value);
+                self.turn(turns, left)
+            }
+            Err(why) => halted(why),
+        }
+    }
+
+    /// The moment of the next turn, of which at most so many are left.
+    fn turn(&mut self, turns: Turns<'p>, left: u64) -> Came
+        ensures { (below : List AnyWaiting)
+            → self.old.pending.items ≡ waits_for below (any_signal_work.Body turns.entry left false)
+            → Moves self.old (and_then (turns_of (setting_at self.old) turns.entry left self.old.state)
+            (to_signal (over self.old below))) result self.new }
+    {
+        if left == 0 {
+            Came::Over(Outcome::Bound)
+        } else {
+            put_turn(&mut self.pending, left - 1, true);
+            self.placed(
+                turns.line,
+                Hand::Part(PartHand::Give(Given::Signal(Signal::Next))),
+            )
+        }
+    }
+
+    /// The body of a turn of a `do` is over, or the moment of its test has come.
+    fn do_on(&mut self, turns: DoTurns<'p>, left: u64, due: bool) -> Came
+        requires { IsInnermost self.old (any_signal_work.DoBody turns left due) }
+        ensures { Moves self.old (follows_of self.old (any_given.Signal NextSignal) self.old.state) result self.new }
+    {
+        if due {
+            self.do_due(turns, left)
+        } else {
+            put_do(&mut self.pending, left, true);
+            self.placed(
+                turns.line,
+                Hand::Part(PartHand::Give(Given::Signal(Signal::Next))),
+            )
+        }
+    }
+
+    /// The moment of the test of a `do` has come.
+    fn do_due(&mut self, turns: DoTurns<'p>, left: u64) -> Came
+        requires { IsInnermost self.old (any_signal_work.DoBody turns left true) }
+        ensures { Moves self.old (follows_of self.old (any_given.Signal NextSignal) self.old.state) result self.new }
+    {
+        if !is_momentless(turns.test) {
+            return self.take(Given::Signal(Signal::Next));
+        }
+        match self.whole().value(turns.test, &mut self.state) {
+            Ok(value) => self.do_decide(turns, left, holds(value)),
+            Err(why) => halted(why),
+        }
+    }
+
+    /// A turn of a `do` whose test is evaluated.
+    fn do_decide(&mut self, turns: DoTurns<'p>, left: u64, held: bool) -> Came
+        ensures { (below : List AnyWaiting)
+            → self.old.pending.items ≡ waits_for below (any_signal_work.DoBody turns.entry left true)
+            → Moves self.old (and_then (do_decided (setting_at self.old) turns.entry left held self.old.state)
+            (to_signal (over self.old below))) result self.new }
+    {
+        if held {
+            self.do_turn(turns, left)
+        } else {
+            drop(self.pending.pop());
+            self.next()
+        }
+    }
+
+    /// The next turn of a `do`, of which at most so many are left.
+    fn do_turn(&mut self, turns: DoTurns<'p>, left: u64) -> Came
+        ensures { (below : List AnyWaiting)
+            → self.old.pending.items ≡ waits_for below (any_signal_work.DoBody turns.entry left true)
+            → Moves self.old (and_then (do_turns_of (setting_at self.old) turns.entry left self.old.state)
+            (to_signal (over self.old below))) result self.new }
+    {
+        if left == 0 {
+            Came::Over(Outcome::Bound)
+        } else {
+            put_do(&mut self.pending, left - 1, false);
+            self.put(Hand::Run(turns.body))
+        }
+    }
+
+    /// The body of a turn of a `foreach` of so many entries is over, or the moment of the turn of the entry at a
+    /// position has come.
+    fn each_on(&mut self, turns: EachTurns<'p>, count: usize, at: usize, due: bool) -> Came
+        requires { IsEachBody self.old turns count at due }
+        ensures { Moves self.old (follows_of self.old (any_given.Signal NextSignal) self.old.state) result self.new }
+    {
+        if at >= count {
+            drop(self.pending.pop());
+            self.next()
+        } else if due {
+            self.entry(turns, at)
+        } else {
+            put_entry(&mut self.pending, at, true);
+            self.placed(
+                turns.line,
+                Hand::Part(PartHand::Give(Given::Signal(Signal::Next))),
+            )
+        }
+    }
+
+    /// The entry at a position is bound, and then its turn comes.
+    fn entry(&mut self, turns: EachTurns<'p>, at: usize) -> Came
+        requires { at < 2 ^ 64 - 1 }
+        ensures { (below : List AnyWaiting) (subject : AnyValue) → at < length (entries subject)
+            → self.old.pending.items ≡ waits_for below (any_signal_work.EachBody turns.entry subject at true)
+            → Moves self.old (and_then (each_turn (setting_at self.old) turns.entry (drop at (entries subject))
+            self.old.state) (to_signal (over self.old below))) result self.new }
+    {
+        match self.pending.last() {
+            Some(Waiting::Part(Work::ForSignal(ForSignal::EachBody(_, subject, _, _)))) => {
+                match bind_at(turns.binding, subject, at, &mut self.state) {
+                    Ok(()) => {
+                        put_entry(&mut self.pending, at + 1, false);
+                        self.put(Hand::Run(turns.body))
+                    }
+                    Err(why) => halted(why),
+                }
+            }
+            _ => self.take(Given::Signal(Signal::Next)),
+        }
+    }
+}
+
+/// The position from which statements wait is this.
+fn put_position<'p>(pending: &mut Vec<Waiting<'p>>, at: usize)
+    ensures { (below : List AnyWaiting) (all : StatementList) (before : ℕ)
+        → pending.old.items ≡ waits_for below (any_signal_work.Rest all before)
+        → pending.new.items ≡ waits_for below (any_signal_work.Rest all at) }
+{
+    if let Some(item) = pending.last_mut() {
+        position_in(item, at);
+    }
+}
+
+/// How many turns are left, and whether one is due.
+fn put_turn<'p>(pending: &mut Vec<Waiting<'p>>, left: u64, due: bool)
+    ensures { (below : List AnyWaiting) (turns : AnyTurns) (n : ℕ) (b : Bool)
+        → pending.old.items ≡ waits_for below (any_signal_work.Body turns n b)
+        → pending.new.items ≡ waits_for below (any_signal_work.Body turns left due) }
+{
+    if let Some(item) = pending.last_mut() {
+        turn_in(item, left, due);
+    }
+}
+
+/// The same of a `do`.
+fn put_do<'p>(pending: &mut Vec<Waiting<'p>>, left: u64, due: bool)
+    ensures { (below : List AnyWaiting) (turns : AnyDoTurns) (n : ℕ) (b : Bool)
+        → pending.old.items ≡ waits_for below (any_signal_work.DoBody turns n b)
+        → pending.new.items ≡ waits_for below (any_signal_work.DoBody turns left due) }
+{
+    if let Some(item) = pending.last_mut() {
+        do_in(item, left, due);
+    }
+}
+
+/// The position of the next entry of a `foreach`, and whether its turn is due.
+fn put_entry<'p>(pending: &mut Vec<Waiting<'p>>, at: usize, due: bool)
+    ensures { (below : List AnyWaiting) (turns : AnyEachTurns) (subject : AnyValue) (n : ℕ) (b : Bool)
+        → pending.old.items ≡ waits_for below (any_signal_work.EachBody turns subject n b)
+        → pending.new.items ≡ waits_for below (any_signal_work.EachBody turns subject at due) }
+{
+    if let Some(item) = pending.last_mut() {
+        entry_in(item, at, due);
+    }
+}
+
+fn position_in<'p>(item: &mut Waiting<'p>, at: usize)
+    ensures { (all : StatementList) (before : ℕ) → item.old ≡ waiting_for (any_signal_work.Rest all before)
+        → item.new ≡ waiting_for (any_signal_work.Rest all at) }
+{
+    if let Waiting::Part(work) = item {
+        if let Work::ForSignal(kind) = work {
+            if let ForSignal::Rest(_, here) = kind {
+                *here = at;
+            }
+        }
+    }
+}
+
+fn turn_in<'p>(item: &mut Waiting<'p>, left: u64, due: bool)
+    ensures { (turns : AnyTurns) (n : ℕ) (b : Bool) → item.old ≡ waiting_for (any_signal_work.Body turns n b)
+        → item.new ≡ waiting_for (any_signal_work.Body turns left due) }
+{
+    if let Waiting::Part(work) = item {
+        if let Work::ForSignal(kind) = work {
+            if let ForSignal::Body(_, here, _) = kind {
+                *here = left;
+            }
+            if let ForSignal::Body(_, _, here) = kind {
+                *here = due;
+            }
+        }
+    }
+}
+
+fn do_in<'p>(item: &mut Waiting<'p>, left: u64, due: bool)
+    ensures { (turns : AnyDoTurns) (n : ℕ) (b : Bool) → item.old ≡ waiting_for (any_signal_work.DoBody turns n b)
+        → item.new ≡ waiting_for (any_signal_work.DoBody turns left due) }
+{
+    if let Waiting::Part(work) = item {
+        if let Work::ForSignal(kind) = work {
+            if let ForSignal::DoBody(_, here, _) = kind {
+                *here = left;
+            }
+            if let ForSignal::DoBody(_, _, here) = kind {
+                *here = due;
+            }
+        }
+    }
+}
+
+fn entry_in<'p>(item: &mut Waiting<'p>, at: usize, due: bool)
+    ensures { (turns : AnyEachTurns) (subject : AnyValue) (n : ℕ) (b : Bool)
+        → item.old ≡ waiting_for (any_signal_work.EachBody turns subject n b)
+        → item.new ≡ waiting_for (any_signal_work.EachBody turns subject at due) }
+{
+    if let Waiting::Part(work) = item {
+        if let Work::ForSignal(kind) = work {
+            if let ForSignal::EachBody(_, _, here, _) = kind {
+                *here = at;
+            }
+            if let ForSignal::EachBody(_, _, _, here) = kind {
+                *here = due;
+            }
+        }
+    }
+}
