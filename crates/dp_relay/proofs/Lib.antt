@@ -5,15 +5,3 @@ pub mod ReadLaws
 pub mod AnswerLaws
 pub mod ServeLaws
 pub mod MadeLaws
-pub mod StepLaws
-pub mod CountLaws
-pub mod AskLaws
-pub mod CrewLaws
-pub mod TwinLaws
-pub mod AccountLaws
-pub mod HireLaws
-pub mod GatherLaws
-pub mod OutcomeLaws
-pub mod CrewEndLaws
-pub mod BoundLaws
-pub mod AllLaws

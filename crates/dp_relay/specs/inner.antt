@@ -3,7 +3,3 @@ pub mod Turns
 pub mod Openings
 pub mod Reading
 pub mod Replying
-pub mod Crews
-pub mod Accounts
-pub mod Hires
-pub mod Crewed

@@ -10,13 +10,13 @@ use Rattle.dp_outside.specs.Reports.{grown}
 use Rattle.dp_outside.specs.declared.links.Gate as gate_of
 use Rattle.dp_program.proofs.GrownNames.{grown_again, grown_by_none}
 use Rattle.dp_registry.specs.declared.entry.Entry.{Entry}
-use Rattle.dp_relay.specs.Bounds.{IsBounded}
-use Rattle.dp_relay.specs.Gates.{Gating, gating}
-use Rattle.dp_relay.specs.Relays.{AllBack, AllServed, Faults, OneOf, faults}
-use Rattle.dp_relay.specs.Relays as relay
-use Rattle.dp_relay.specs.declared.errors.AllError.{AllError}
-use Rattle.dp_relay.specs.declared.errors.AllError.TheVariants.{GateFault, NoThread, Memory}
-use Rattle.dp_relay.specs.declared.summaries.Summary.{Summary}
+use Rattle.dp_crews.specs.Bounds.{IsBounded}
+use Rattle.dp_crews.specs.Gates.{Gating, gating}
+use Rattle.dp_crews.specs.Relays.{AllBack, AllServed, Faults, OneOf, faults}
+use Rattle.dp_crews.specs.Relays as relay
+use Rattle.dp_crews.specs.declared.errors.AllError.{AllError}
+use Rattle.dp_crews.specs.declared.errors.AllError.TheVariants.{GateFault, NoThread, Memory}
+use Rattle.dp_crews.specs.declared.summaries.Summary.{Summary}
 use Rattle.dp_top.specs.declared.failures.Failure.{Failure}
 use Rattle.dp_top.specs.declared.failures.Failure.TheVariants as failure
 use Rattle.dp_value.specs.Decimals.{decimal_in}

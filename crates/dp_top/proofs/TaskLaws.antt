@@ -32,7 +32,7 @@ use Rattle.dp_top.specs.Engine.{EngineFails, EndsSo as EngineEnds}
 use Rattle.dp_top.specs.Links.{IsDialled}
 use Rattle.dp_top.specs.Failures.{status_of, line_of, Says}
 use Rattle.dp_top.specs.Ide.{IdeFails}
-use Rattle.dp_relay.specs.Relays.{Faults, faults}
+use Rattle.dp_crews.specs.Relays.{Faults, faults}
 use Rattle.dp_top.specs.Proxy.{HasFailed, ProxyCause, ProxyFails}
 use Rattle.dp_top.specs.Replay.{ReplayFails}
 use Rattle.dp_world.specs.declared.errors.ReplayError.TheVariants as replayed

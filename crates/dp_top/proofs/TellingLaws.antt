@@ -1,4 +1,4 @@
--- What dp_relay says of gates, it says of what they tell.
+-- What dp_crews says of gates, it says of what they tell.
 use Rattle.std.proofs.Common.{◌≡◌, ◌⊎◌, ℕ, ◌+◌, List, [], ◌∷◌, ◌++◌, map, Result, Ok, Err, refl, sym, ap, ◌∙◌, subst, inl, inr}
 use Rattle.std.specs.List.{AllZip}
 use Rattle.std.proofs.lemmas.List.{length-map}
@@ -6,15 +6,15 @@ use Rattle.dp_outside.specs.Causes.{Rose}
 use Rattle.dp_outside.specs.declared.links.Gate as gate_of
 use Rattle.dp_desk.specs.Made.{Made, Counts, plus}
 use Rattle.dp_registry.specs.declared.entry.Entry.{Entry}
-use Rattle.dp_relay.specs.Bounds.{CameBack, HasReturned, IsBounded}
-use Rattle.dp_relay.specs.Gates.{Gating, gating}
-use Rattle.dp_relay.specs.Relays.{AllBack, AllDone, AllServed, AllWorked, Came, EnginesServed, Faults, GateFailed, HasFailed, IdesServed, IsSamePort, IsTwinBack, OneOf, Worker, links_in_all, made_in_all, plus_tally, tally_in_all}
-use Rattle.dp_relay.specs.Summaries.{summary}
-use Rattle.dp_relay.specs.Twins.{Each, IsTwinGate, Twins}
-use Rattle.dp_relay.specs.declared.errors.AllError.{AllError}
-use Rattle.dp_relay.specs.declared.errors.AllError.TheVariants.{GateFault, NoThread, Memory}
-use Rattle.dp_relay.specs.declared.summaries.Summary.{Summary}
-use Rattle.dp_relay.specs.declared.tallies.Tally.{Tally}
+use Rattle.dp_crews.specs.Bounds.{CameBack, HasReturned, IsBounded}
+use Rattle.dp_crews.specs.Gates.{Gating, gating}
+use Rattle.dp_crews.specs.Relays.{AllBack, AllDone, AllServed, AllWorked, Came, EnginesServed, Faults, GateFailed, HasFailed, IdesServed, IsSamePort, IsTwinBack, OneOf, Worker, links_in_all, made_in_all, plus_tally, tally_in_all}
+use Rattle.dp_crews.specs.Summaries.{summary}
+use Rattle.dp_crews.specs.Twins.{Each, IsTwinGate, Twins}
+use Rattle.dp_crews.specs.declared.errors.AllError.{AllError}
+use Rattle.dp_crews.specs.declared.errors.AllError.TheVariants.{GateFault, NoThread, Memory}
+use Rattle.dp_crews.specs.declared.summaries.Summary.{Summary}
+use Rattle.dp_crews.specs.declared.tallies.Tally.{Tally}
 use Rattle.dp_top.specs.Proxy.{by_telling}
 
 -- ---- lists

@@ -11,12 +11,12 @@ use Rattle.dp_outside.specs.Reports.{BeginsEmpty, grown}
 use Rattle.dp_outside.specs.Streams.{AppendsFront}
 use Rattle.dp_outside.specs.declared.links.Gate as gate_of
 use Rattle.dp_registry.specs.declared.entry.Entry.{Entry}
-use Rattle.dp_relay.specs.Bounds.{IsBounded}
-use Rattle.dp_relay.specs.Gates.{Gating}
-use Rattle.dp_relay.specs.Relays.{AllServed, Faults, faults}
-use Rattle.dp_relay.specs.declared.errors.AllError.{AllError}
-use Rattle.dp_relay.specs.declared.errors.AllError.TheVariants as ends
-use Rattle.dp_relay.specs.declared.summaries.Summary.{Summary}
+use Rattle.dp_crews.specs.Bounds.{IsBounded}
+use Rattle.dp_crews.specs.Gates.{Gating}
+use Rattle.dp_crews.specs.Relays.{AllServed, Faults, faults}
+use Rattle.dp_crews.specs.declared.errors.AllError.{AllError}
+use Rattle.dp_crews.specs.declared.errors.AllError.TheVariants as ends
+use Rattle.dp_crews.specs.declared.summaries.Summary.{Summary}
 use Rattle.dp_top.specs.declared.failures.Failure.{Failure}
 use Rattle.dp_top.specs.declared.failures.Failure.TheVariants as failure
 use Rattle.dp_words.specs.Words.{Service}
@@ -33,7 +33,7 @@ summary_line s =
 
 -- ---- the gates
 
--- dp_relay speaks of gates by what a dictionary tells of them. Here a gate is what it told, and the
+-- dp_crews speaks of gates by what a dictionary tells of them. Here a gate is what it told, and the
 -- dictionary reads just that.
 abbrev pub by_telling : gate_of.Ghosts Gating ⊤ ⊤
 by_telling = record {

@@ -7,7 +7,7 @@ use Rattle.dp_show.specs.Shows.{Shows, Ends}
 use Rattle.dp_top.specs.declared.failures.Failure.{Failure}
 use Rattle.dp_top.specs.declared.failures.Failure.TheVariants.{TooLong, Source, ShelfFailed, NoFile, Fatal, Bound, Output, Script, Differs, PeerEnd, Packet, Network, Stopped, Lies, Memory}
 use Rattle.dp_words.specs.Words.{Task, run, talk, tape, audit, dap, engine, async, ide, replay, soak, proxy, show, IsInvocation, invocation_in}
-use Rattle.dp_relay.specs.Relays.{faults}
+use Rattle.dp_crews.specs.Relays.{faults}
 use Rattle.dp_top.specs.Async.{AsyncFails, Listens}
 use Rattle.dp_top.specs.Dap.{Daps, DapFails}
 use Rattle.dp_top.specs.Engine.{Engages, EngineFails}

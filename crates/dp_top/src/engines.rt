@@ -91,15 +91,15 @@ impl<'a, L: Ledger> Engines for Debugged<'a, L> {
                 drop(session);
                 Ok((Bytes::of(Vec::new(alloc)), None))
             }
-            Some(SessionEnd::Detached) => run_on(session, steps),
-            Some(SessionEnd::Finished(_)) => run_on(session, steps),
-            None => run_on(session, steps),
+            Some(SessionEnd::Detached) => run_to_end(session, steps),
+            Some(SessionEnd::Finished(_)) => run_to_end(session, steps),
+            None => run_to_end(session, steps),
         }
     }
 }
 
 /// Runs the program on to its end.
-fn run_on<L: Ledger>(
+fn run_to_end<L: Ledger>(
     session: Session<'_>,
     steps: &mut Steps<L>,
 ) -> Result<(Bytes, Option<Outcome>), Memory>

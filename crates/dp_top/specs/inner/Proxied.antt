@@ -5,11 +5,11 @@ use Rattle.dp_outside.specs.Changes.{Change, IsUntouched}
 use Rattle.dp_outside.specs.Reports.{grown}
 use Rattle.dp_outside.specs.Streams.{AppendsFront}
 use Rattle.dp_registry.specs.declared.entry.Entry.{Entry}
-use Rattle.dp_relay.specs.Bounds.{IsBounded}
-use Rattle.dp_relay.specs.Gates.{Gating}
-use Rattle.dp_relay.specs.Relays.{AllServed, Faults, faults}
-use Rattle.dp_relay.specs.declared.errors.AllError.{AllError}
-use Rattle.dp_relay.specs.declared.summaries.Summary.{Summary}
+use Rattle.dp_crews.specs.Bounds.{IsBounded}
+use Rattle.dp_crews.specs.Gates.{Gating}
+use Rattle.dp_crews.specs.Relays.{AllServed, Faults, faults}
+use Rattle.dp_crews.specs.declared.errors.AllError.{AllError}
+use Rattle.dp_crews.specs.declared.summaries.Summary.{Summary}
 use Rattle.dp_top.specs.declared.failures.Failure.{Failure}
 use Rattle.dp_top.specs.declared.failures.Failure.TheVariants as failure
 use Rattle.dp_words.specs.Words.{Service}

@@ -1,6 +1,6 @@
 use Rattle.std.proofs.Common.{refl, sym, subst, ◌∙◌}
 use Rattle.dp_outside.specs.Changes.{change}
-use Rattle.dp_relay.specs.Relays.{faults}
+use Rattle.dp_crews.specs.Relays.{faults}
 use Rattle.dp_words.specs.Commands.{service_seen}
 use Rattle.dp_top.specs.declared.failures.Failure.{Failure}
 use Rattle.dp_top.specs.Proxy.{ProxyFails}

@@ -1,4 +1,4 @@
-use Rattle.dp_relay.specs.Relays.{faults}
+use Rattle.dp_crews.specs.Relays.{faults}
 use Rattle.dp_words.specs.Commands.{service_seen}
 use Rattle.dp_top.specs.Seen.{net_seen}
 use Rattle.dp_top.proofs.ProxyLaws.{ran, ran_so}

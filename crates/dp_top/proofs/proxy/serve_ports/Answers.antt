@@ -1,6 +1,6 @@
 use Rattle.std.proofs.Common.{refl, inl, inr}
-use Rattle.dp_relay.specs.Gates.{gating}
-use Rattle.dp_relay.specs.Relays.{faults}
+use Rattle.dp_crews.specs.Gates.{gating}
+use Rattle.dp_crews.specs.Relays.{faults}
 use Rattle.dp_words.specs.Commands.{service_seen}
 use Rattle.dp_top.specs.Proxy.{IsNew}
 use Rattle.dp_top.specs.Seen.{net_seen}

@@ -1,5 +1,5 @@
 use Rattle.std.proofs.Common.{map}
-use Rattle.dp_relay.specs.Gates.{gating}
+use Rattle.dp_crews.specs.Gates.{gating}
 use Rattle.dp_top.specs.Seen.{net_seen}
 use Rattle.dp_top.specs.inner.Proxied.{AreShut}
 use Rattle.dp_top.proofs.proxy.shut_all.Given as goal

@@ -1,0 +1,12 @@
+pub mod StepLaws
+pub mod CountLaws
+pub mod AskLaws
+pub mod CrewLaws
+pub mod TwinLaws
+pub mod AccountLaws
+pub mod HireLaws
+pub mod GatherLaws
+pub mod OutcomeLaws
+pub mod CrewEndLaws
+pub mod BoundLaws
+pub mod AllLaws
