@@ -75,16 +75,16 @@ impl<'s, 'a, L: Ledger> Recorded for Debugged<'s, 'a, L> {
                 drop(session);
                 Ok((Bytes::of(Vec::new(alloc)), None))
             }
-            Some(SessionEnd::Detached) => run_on(session, steps),
-            Some(SessionEnd::Finished(_)) => run_on(session, steps),
-            None => run_on(session, steps),
+            Some(SessionEnd::Detached) => run_to_end(session, steps),
+            Some(SessionEnd::Finished(_)) => run_to_end(session, steps),
+            None => run_to_end(session, steps),
         }
     }
 }
 
 /// Runs the program on to its end.
 #[tactic(auto, using(crate::proofs::StatusLaws::ends_so))]
-fn run_on<L: Ledger>(
+fn run_to_end<L: Ledger>(
     session: Session<'_>,
     steps: &mut Steps<L>,
 ) -> Result<(Bytes, Option<Outcome>), Memory>

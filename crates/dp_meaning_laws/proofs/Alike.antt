@@ -38,10 +38,6 @@ pub record Facts (D : Type 0) : Type 1 where
   -- how many moments there are at least where a run is over by the bound
   pub bound : ℕ
 
--- facts of states alone
-abbrev pub of_states : {D : Type 0} → (D → ℕ → State → Type 0) → (D → D) → Facts D
-of_states P down = record { state = P; line = λ d line. Unit {0}; down = λ file d. down d; bound = 0 }
-
 -- how a run of a program can end by itself, after so many moments
 abbrev pub CanEnd : ℕ → ℕ → Outcome → Type 0
 CanEnd bound n way.Done = Unit {0}

@@ -11,8 +11,6 @@ pub mod AlikeLoops
 pub mod AlikePlaces
 pub mod AlikePrograms
 pub mod AlikeStatements
-pub mod Always
-pub mod AlwaysPrograms
 pub mod Each
 pub mod Frames
 pub mod OfBundle

@@ -11,7 +11,7 @@ use Rattle.dp_actions.specs.Run.{Run, Done, Over, At}
 use Rattle.dp_actions.specs.Setting.{Setting}
 use Rattle.dp_meaning.specs.Trace.{Ended, Trace, moment_of, program_trace, trace, with_moment}
 use Rattle.dp_meaning.specs.Writes.{Writes, arrived, evaluation_setting, of_number, one_write, written, written_by}
-use Rattle.dp_meaning_laws.proofs.Steady.{IsSteady, steady-program}
+use Rattle.dp_meaning.proofs.Steady.{IsSteady, steady-program}
 use Rattle.dp_meaning.proofs.WrittenMoments.{moments-written}
 
 -- writes, one after another

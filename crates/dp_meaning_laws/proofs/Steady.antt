@@ -1,4 +1,4 @@
--- A program leaves the number of moments alone, so its moments are numbered from one on.
+-- A step of a program leaves the number of moments alone.
 use Rattle.std.proofs.Common.{◌≡◌, ℕ, ◌+◌, Bool, true, false, if◌then◌else◌, List, [], ◌∷◌, ◌++◌, length, Option, Some, None, Result, Ok, Err, refl, sym, ap, ◌∙◌}
 use Rattle.std.specs.Prelude.{◌==◌, nat_le, unwrap_or}
 use Rattle.std.specs.Option.{option_map_or}
@@ -22,12 +22,6 @@ use Rattle.dp_state.specs.Places.{assigned, unset, then_state, with_global, with
 use Rattle.dp_state.specs.States.{entered, frame_limit, owner_at, printed, read_at, variables_at}
 use Rattle.dp_state.specs.Variables.{Variables, with_slot, without}
 use Rattle.dp_tree.specs.declared.tree.Function.{Function}
-use Rattle.dp_meaning.specs.Programs.{program_run}
-use Rattle.dp_actions.specs.Run.{Run}
-use Rattle.dp_meaning_laws.proofs.Always.{Always, IsKept}
-use Rattle.dp_meaning_laws.proofs.AlwaysPrograms.{Always-program}
-
--- ---- steps
 
 as-either : (b : Bool) (s t : State) (n : ℕ) → s.moments ≡ n → t.moments ≡ n → (if b then s else t).moments ≡ n
 as-either true s t n h k = h
@@ -108,28 +102,3 @@ moments-included bundle file s t e =
     go true true e = absurd (cc)
     go true false e = moments-entered (included_frame file) more t e
     go false c e = absurd (cc)
-
--- ---- runs
-
--- whatever is done at its moments, the state's number of moments rises by one at each, from so many on
-abbrev HasHad : Unit {0} → ℕ → State → Type 0
-HasHad d n s = s.moments ≡ n
-
-abbrev pub IsSteady : {A : Type 0} → ℕ → Run A → Type 0
-IsSteady n r = Always HasHad tt n r
-
-kept : (bundle : Bundle) → IsKept HasHad bundle
-kept bundle = record {
-  down = λ d. d;
-  assigns = λ d n level name keys push v s t e p. moments-assigned level name keys push v s t e ∙ p;
-  unsets = λ d n name keys s t e p. moments-unset name keys s t e ∙ p;
-  binds = λ d n name s p. moments-global name s ∙ p;
-  defines = λ d n name v s p. moments-constant name v s ∙ p;
-  prints = λ d n piece s t e p. moments-printed piece s t e ∙ p;
-  calls = λ d n file f values s t within e p. moments-called file f values s t e ∙ p;
-  includes = λ d n file s t within e p. moments-included bundle file s t e ∙ p;
-  leaves = λ d n s p. p;
-}
-
-pub steady-program : (bundle : Bundle) (bound : ℕ) → IsSteady 0 (program_run bundle bound)
-steady-program bundle bound = Always-program HasHad bundle (kept bundle) bound tt refl

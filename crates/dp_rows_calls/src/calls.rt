@@ -1,35 +1,50 @@
 //! The calls that rows name. The first field of a row names its call and has the input; what comes of it is reported in
 //! words, which the field `gives` has to have.
 
-use crate::commands::{told_command, told_line};
-use crate::frames::{told_commands, told_packets};
-use crate::packets::{told_head, told_markup, told_packet};
-use crate::settings::told_setting;
+use crate::language_calls::LanguageCall;
+use crate::proxy_calls::ProxyCall;
+use crate::text_calls::TextCall;
 use dp_rows::{Differences, Memory, Row};
 use std::alloc::Global;
 
 /// A call.
 #[derive(Clone, Copy)]
 enum Call {
-    Read,
-    Head,
-    Packet,
-    Line,
-    Command,
-    Commands,
-    Packets,
-    Setting,
+    OfTexts(TextCall),
+    OfLanguage(LanguageCall),
+    OfProxy(ProxyCall),
 }
 
-const CALLS: [(&[u8], Call); 8] = [
-    (b"read", Call::Read),
-    (b"head", Call::Head),
-    (b"packet", Call::Packet),
-    (b"line", Call::Line),
-    (b"command", Call::Command),
-    (b"commands", Call::Commands),
-    (b"packets", Call::Packets),
-    (b"setting", Call::Setting),
+const CALLS: [(&[u8], Call); 23] = [
+    (b"read", Call::OfTexts(TextCall::Read)),
+    (b"head", Call::OfTexts(TextCall::Head)),
+    (b"packet", Call::OfTexts(TextCall::Packet)),
+    (b"line", Call::OfTexts(TextCall::Line)),
+    (b"command", Call::OfTexts(TextCall::Command)),
+    (b"commands", Call::OfTexts(TextCall::Commands)),
+    (b"packets", Call::OfTexts(TextCall::Packets)),
+    (b"setting", Call::OfTexts(TextCall::Setting)),
+    (b"lex", Call::OfLanguage(LanguageCall::Lex)),
+    (
+        b"lex_expression",
+        Call::OfLanguage(LanguageCall::LexExpression),
+    ),
+    (b"parse_file", Call::OfLanguage(LanguageCall::ParseFile)),
+    (
+        b"parse_expression",
+        Call::OfLanguage(LanguageCall::ParseExpression),
+    ),
+    (b"code_lines", Call::OfLanguage(LanguageCall::CodeLines)),
+    (b"pure", Call::OfLanguage(LanguageCall::Pure)),
+    (b"events", Call::OfProxy(ProxyCall::Events)),
+    (b"asked", Call::OfProxy(ProxyCall::Asked)),
+    (b"key", Call::OfProxy(ProxyCall::Key)),
+    (b"up", Call::OfProxy(ProxyCall::Up)),
+    (b"down", Call::OfProxy(ProxyCall::Down)),
+    (b"full", Call::OfProxy(ProxyCall::Full)),
+    (b"engine", Call::OfProxy(ProxyCall::Engine)),
+    (b"given", Call::OfProxy(ProxyCall::Given)),
+    (b"moved", Call::OfProxy(ProxyCall::Moved)),
 ];
 
 /// The call of this name.
@@ -45,14 +60,9 @@ fn call_of(name: &[u8]) -> Option<Call> {
 /// What comes of a call, in words.
 fn answered(alloc: Global, call: Call, row: &Row<'_>, input: &[u8]) -> Result<String, Memory> {
     match call {
-        Call::Read => told_markup(alloc, input),
-        Call::Head => told_head(alloc, row, input),
-        Call::Packet => told_packet(alloc, input),
-        Call::Line => told_line(alloc, input),
-        Call::Command => told_command(alloc, input),
-        Call::Commands => told_commands(alloc, input),
-        Call::Packets => told_packets(alloc, input),
-        Call::Setting => told_setting(alloc, input),
+        Call::OfTexts(call) => call.answer(alloc, row, input),
+        Call::OfLanguage(call) => call.answer(alloc, input),
+        Call::OfProxy(call) => call.answer(alloc, input),
     }
 }
 

@@ -1,13 +1,22 @@
-//! The rows of calls of packets, markup, command lines, frames and features: makes each call, and prints for each file
-//! of rows how many there are and each that differs.
+//! The rows of calls of single crates, of texts, of the parser and of the proxy: makes each call, and prints for each
+//! file of rows how many there are and each that differs.
 #![tactic(auto)]
 
 mod calls;
 mod commands;
 mod frames;
+mod lanes;
+mod language;
+mod language_calls;
+mod lists;
 mod packets;
+mod proxy_calls;
+mod registrations;
+mod registries;
 mod requests;
 mod settings;
+mod steps;
+mod text_calls;
 
 use calls::differences_of;
 use dp_rows::{Memory, Report, RowFile, read_files, rows_of};

@@ -18,6 +18,23 @@ use std::sync::ledger::{Blank, Ledger};
 /// How many bytes a sink takes.
 const ROOM: usize = 1 << 20;
 
+/// Tells where the report of a session, what was put on the link or the program's own output differs from what the row
+/// wants.
+fn differences_from(
+    alloc: Global,
+    row: &Row<'_>,
+    report: &str,
+    sent: &[u8],
+    own: &[u8],
+) -> Result<Differences, Memory> {
+    let mut differences = Differences::of_given(alloc, row, report)?;
+    let wanted = row.bytes(alloc, b"sent")?;
+    differences.compare("sent", wanted.as_slice(), sent)?;
+    let wanted = row.bytes(alloc, b"own")?;
+    differences.compare("own", wanted.as_slice(), own)?;
+    Ok(differences)
+}
+
 /// Serves the session over the program, and tells what differs from what the row wants.
 fn differences_over<L: Ledger>(
     alloc: Global,
@@ -48,12 +65,7 @@ fn differences_over<L: Ledger>(
         &mut steps,
     );
     let found = reported(alloc, &done, polled.looks())?;
-    let mut differences = Differences::of_given(alloc, row, found.as_str())?;
-    let sent = row.bytes(alloc, b"sent")?;
-    differences.compare("sent", sent.as_slice(), sink.taken())?;
-    let own = row.bytes(alloc, b"own")?;
-    differences.compare("own", own.as_slice(), out.taken())?;
-    Ok(differences)
+    differences_from(alloc, row, found.as_str(), sink.taken(), out.taken())
 }
 
 /// Serves the session of a row, and tells what differs from what it wants.

@@ -14,7 +14,7 @@ use dp_break::Breaks;
 use dp_meaning::{NumberedWrite, Stop, run_to};
 use dp_parse::parse_file;
 use dp_rows::{Field, Memory, Row, at_space, number_of, unescaped};
-use dp_state::State;
+use dp_state::{Moment, State};
 use dp_tree::{Bundle, BundleFile, Files};
 use dp_value::{Bytes, Items};
 use dp_view::Paging;
@@ -254,15 +254,20 @@ impl Session {
                 number,
                 BOUND,
             )? {
-                Stop::At(moment, state) => {
-                    if self.breaks.pass(&self.bundle, &moment, &state)? {
-                        write!(text, " {number}")?;
-                    }
-                }
+                Stop::At(moment, state) => self.pass_at(text, &moment, &state)?,
                 Stop::Ended(_, _) => break,
             }
         }
         text.push('\n')?;
+        Ok(())
+    }
+
+    /// Passes a moment, and puts its number where a breakpoint stops.
+    fn pass_at(&mut self, text: &mut String, moment: &Moment, state: &State) -> Result<(), Memory> {
+        if self.breaks.pass(&self.bundle, moment, state)? {
+            let number = moment.number;
+            write!(text, " {number}")?;
+        }
         Ok(())
     }
 

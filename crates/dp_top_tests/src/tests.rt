@@ -1,5 +1,4 @@
-//! The engine and the scripted IDE, each called as a program calls it, in two threads over loopback; and a large list
-//! of events.
+//! The engine and the scripted IDE, each called as a program calls it, in two threads over loopback.
 
 use crate::calls::{Ended, call, free_port, has_written, shelf_with};
 use dp_outside::Memory;
@@ -61,26 +60,5 @@ fn an_engine_and_a_script_meet(rt: HostRuntime) -> Result<(), Fail> {
     let (played, debugged) = join(&rt, || play(&rt, alloc, port), || debug(&rt, alloc, port));
     assert!(rt; has_written(&played, b"".as_slice()));
     assert!(rt; has_written(&debugged, b"7".as_slice()));
-    Ok(())
-}
-
-/// What a large list of events prints that is drawn.
-fn soak<R: Threads + Wait + Sync + Send + Sockets<Listener = TcpListener, Stream = TcpStream>>(
-    rt: &R,
-    alloc: Global,
-) -> Result<Ended, Memory> {
-    let mut shelf = shelf_with(alloc, "a.php", PROGRAM)?;
-    call(rt, alloc, &["soak", "1000", "7"], &mut shelf)
-}
-
-/// A large list of events that is drawn: two calls print the same line, of so many sessions.
-#[test]
-fn two_soaks_print_the_same(rt: HostRuntime) -> Result<(), Fail> {
-    let alloc = rt.alloc();
-    let first = soak(&rt, alloc)?;
-    let second = soak(&rt, alloc);
-    assert!(rt; first.out.taken().starts_with(b"sessions 1000 ".as_slice()));
-    assert!(rt; has_written(&second, first.out.taken()));
-    assert_eq!(rt; first.status, 0);
     Ok(())
 }

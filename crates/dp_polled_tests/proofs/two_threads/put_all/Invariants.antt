@@ -1,5 +1,0 @@
-use Rattle.std.proofs.Common.{◌≡◌, true}
-use Rattle.dp_polled_tests.proofs.two_threads.put_all.Given as goal
-
-abbrev pub invariant-bytes : goal.invariant-bytes
-invariant-bytes g l = (l.seat.post ≡ l.fn.post) × (l.seat.may_put ≡ true)
