@@ -1,9 +1,10 @@
 -- Lists grow by a push.
 use Rattle.std.proofs.Common.{◌≡◌, ℕ, pos, zero, suc, ◌+◌, ◌<◌, ◌≤◌, Bool, true, false, nat_le, List, [], ◌∷◌, ◌++◌, length, Some, Ok, Err, refl, ap, sym, ◌∙◌, arith}
-use Rattle.std.proofs.Common.{◌⊎◌, inl, inr, map, take, drop, get_or, subst, append_assoc}
+use Rattle.std.proofs.Common.{◌⊎◌, inl, inr, map, take, drop, slice_get, subst, append_assoc}
 use Rattle.std.proofs.lemmas.Bool.Decides.{Decides-int_eq, nat_tests}
 use Rattle.std.proofs.lemmas.Int.{ints, int_max_is}
-use Rattle.std.proofs.lemmas.List.{length_push, take-append-drop, map-append, map_more, drop_more}
+use Rattle.std.proofs.lemmas.List.{length_push}
+use Rattle.std.proofs.lemmas.Option.{same_Some}
 use Rattle.std.specs.Int.{int_max}
 use Rattle.std.specs.Ordering.{int_eq}
 use Rattle.dp_value.specs.declared.errors.CallError.{CallError}
@@ -66,10 +67,12 @@ heavy-list_of ds es h =
     let test : nat_le (pairs_weight (numbered 0 (ds ++ es))) weight_limit ≡ false = grind (arith, nat_tests) in
     rw test
 
-pub light-list_of : (ds : List Data) → pairs_weight (list_of ds).pairs ≤ weight_limit
-    → light_array (list_of ds) ≡ Ok (data_of_table (list_of ds))
-light-list_of ds h =
-    let test : nat_le (pairs_weight (numbered 0 ds)) weight_limit ≡ true = grind (arith, nat_tests) in rw test
+pub light-list_of : (ds : List Data) (t : Table) → t ≡ list_of ds → pairs_weight t.pairs ≤ weight_limit
+    → light_array (list_of ds) ≡ Ok (data_of_table t)
+light-list_of ds t is h =
+    let light = subst (λ (x : Table). pairs_weight x.pairs ≤ weight_limit) is h in
+    let test : nat_le (pairs_weight (numbered 0 ds)) weight_limit ≡ true = grind (arith, nat_tests, light) in
+    rw test (ap (λ (x : Table). Ok (data_of_table x)) (sym is))
 
 length-numbered : (n : ℕ) (ds : List Data) → length (numbered n ds) ≡ length ds
 length-numbered n [] = refl
@@ -92,17 +95,12 @@ heavier ds es d h =
     ap (λ l. light_array (list_of l)) (sym (append_assoc ds (d ∷ []) es)) ∙ heavy-list_of (ds ++ d ∷ []) es pushed
 
 -- a list, by what stands before a place, there and behind it
-pub split_at : {X : Type 0} (f : X → Data) (xs : List X) (i : ℕ) (x : X) → i < length xs → x ≡ get_or xs i x
+pub split_at : {X : Type 0} (f : X → Data) (xs : List X) (i : ℕ) (x : X) → Some x ≡ slice_get xs i
     → map f xs ≡ map f (take i xs) ++ f x ∷ map f (drop (i + 1) xs)
-split_at f xs i x within at =
-    sym (ap (map f) (take-append-drop i xs))
-    ∙ map-append f (take i xs) (drop i xs)
-    ∙ ap (λ ys. map f (take i xs) ++ map f ys) (drop_more xs i x within)
-    ∙ ap (λ y. map f (take i xs) ++ f y ∷ map f (drop (i + 1) xs)) (sym at)
-
-pub grown : {X : Type 0} (f : X → Data) (xs : List X) (i : ℕ) (x : X) → i < length xs → x ≡ get_or xs i x
-    → map f (take i xs) ++ f x ∷ [] ≡ map f (take (i + 1) xs)
-grown f xs i x within at = sym (map_more f xs i x within ∙ ap (λ y. map f (take i xs) ++ f y ∷ []) (sym at))
+split_at f [] i x h = cc
+split_at f (y ∷ xs) zero x h = let same : x ≡ y = same_Some x y h in ap (λ z. f z ∷ map f xs) (sym same)
+split_at f (y ∷ xs) (suc i) x h =
+    let e : suc i + 1 ≡ suc (i + 1) = omega arith in rw e (ap (λ zs. f y ∷ zs) (split_at f xs i x h))
 
 -- why a push at the end of a list was refused
 pub refused : (ds es : List Data) (d : Data) (t : Table) (e : CallError) → t ≡ list_of ds

@@ -2,14 +2,14 @@
 
 ghost use Rattle.std.specs.Prelude.{◌≡◌, ◌<◌, ◌≤◌, ◌⊎◌, pos, length, map, Some, IfErr, IfOk, OnOk};
 ghost use Rattle.dp_value.specs.Data.{data_of_key, pairs_weight};
-ghost use Rattle.dp_value.specs.Table.{keys_of, table_push, largest_int, values_of, weight_limit};
+ghost use Rattle.dp_value.specs.Table.{table_push, largest_int, values_of, weight_limit};
 ghost use Rattle.dp_value.specs.Value.{data_of};
 ghost use Rattle.dp_operations.specs.Builtins as table;
 ghost use Rattle.dp_operations.specs.Builtins.{count_of, on_one, single as one_of, CallAnswers, CallGives};
 ghost use Rattle.dp_operations.specs.Lists.{light_array, list_of};
 
 use crate::arguments::single;
-use dp_value::{CallError, Key, Memory, PhpArray, Value, ValueError};
+use dp_value::{CallError, Memory, PhpArray, Value, ValueError};
 use std::alloc::Global;
 
 /// The number of entries of an array.
@@ -42,7 +42,7 @@ pub(crate) fn key_list(alloc: Global, args: &[&Value]) -> Result<Value, CallErro
         return Err(CallError::Arguments);
     };
     match a {
-        Value::Array(array) => list_of_keys(alloc, keys(alloc, array)?.as_slice()),
+        Value::Array(array) => list_of_keys(alloc, array),
         Value::Null | Value::Bool(_) | Value::Int(_) | Value::Text(_) => {
             Err(CallError::Unsupported)
         }
@@ -57,25 +57,11 @@ pub(crate) fn value_list(alloc: Global, args: &[&Value]) -> Result<Value, CallEr
         return Err(CallError::Arguments);
     };
     match a {
-        Value::Array(array) => list_of_values(alloc, values(alloc, array)?.as_slice()),
+        Value::Array(array) => list_of_values(alloc, array),
         Value::Null | Value::Bool(_) | Value::Int(_) | Value::Text(_) => {
             Err(CallError::Unsupported)
         }
     }
-}
-
-/// The keys of an array, in its order.
-fn keys(alloc: Global, array: &PhpArray) -> Result<Vec<Key>, Memory>
-    ensures { IfOk result (λ keys. keys.items ≡ keys_of array.now.pairs) }
-{
-    let mut keys = Vec::with_capacity(alloc, array.len())?;
-    for at in 0..array.len() {
-        let Some((key, _value)) = array.pair(at) else {
-            unreachable!();
-        };
-        keys.push(key.try_clone()?)?;
-    }
-    Ok(keys)
 }
 
 /// The values of an array in its order, each with one owner more.
@@ -92,23 +78,29 @@ pub(crate) fn values(alloc: Global, array: &PhpArray) -> Result<Vec<Value>, Memo
     Ok(values)
 }
 
-/// Keys as a list of values.
-fn list_of_keys(alloc: Global, keys: &[Key]) -> Result<Value, CallError>
-    ensures { CallAnswers result (light_array (list_of (map data_of_key keys.now))) }
+/// The keys of an array, as a list.
+fn list_of_keys(alloc: Global, array: &PhpArray) -> Result<Value, CallError>
+    ensures { CallAnswers result (light_array (list_of (map (λ p. data_of_key p.0) array.now.pairs))) }
 {
     let mut list = PhpArray::new(alloc);
-    for key in keys {
+    for at in 0..array.len() {
+        let Some((key, _value)) = array.pair(at) else {
+            unreachable!();
+        };
         append(&mut list, key.to_value()?)?;
     }
     Ok(Value::Array(list))
 }
 
-/// Values as a list.
-fn list_of_values(alloc: Global, values: &[Value]) -> Result<Value, CallError>
-    ensures { CallAnswers result (light_array (list_of (map data_of values.now))) }
+/// The values of an array, as a list.
+fn list_of_values(alloc: Global, array: &PhpArray) -> Result<Value, CallError>
+    ensures { CallAnswers result (light_array (list_of (values_of array.now.pairs))) }
 {
     let mut list = PhpArray::new(alloc);
-    for value in values {
+    for at in 0..array.len() {
+        let Some((_key, value)) = array.pair(at) else {
+            unreachable!();
+        };
         append(&mut list, value.try_clone()?)?;
     }
     Ok(Value::Array(list))

@@ -302,5 +302,21 @@ fn position_of(names: &[Bytes], name: &Bytes) -> Option<usize>
     ensures { result ≡ position (bytes_eq name.now) names.now }
 {
     let mut names = names.iter();
-    names.position(|other| name == other)
+    names.position(|other| is_same(name.as_slice(), other.as_slice()))
+}
+
+/// Whether two names are the same. Their first bytes tell most names apart.
+fn is_same(name: &[u8], other: &[u8]) -> bool
+    ensures { result ≡ bytes_eq name.now other.now }
+{
+    let [first, rest @ ..] = name else {
+        return other.is_empty();
+    };
+    let [second, more @ ..] = other else {
+        return false;
+    };
+    if *first != *second || rest.len() != more.len() {
+        return false;
+    }
+    rest.is_empty() || rest == more
 }

@@ -1,8 +1,10 @@
 -- Columns of which some rows are removed already: what is left, which row stands where, and how both change.
-use Rattle.std.proofs.Common.{◌≡◌, ℕ, zero, suc, ◌+◌, ◌≤◌, ◌<◌, List, [], ◌∷◌, ◌++◌, length, set, drop, get_or, remove, refl, ap, sym, ◌∙◌, arith, length-drop}
-use Rattle.std.proofs.lemmas.List.{get_or-drop, drop-set-add, drop-append-le}
+use Rattle.std.proofs.Common.{◌≡◌, ℕ, zero, suc, ◌+◌, ◌-◌, ◌≤◌, ◌<◌, List, [], ◌∷◌, ◌++◌, length, set, take, drop, get_or, remove, Option, Some, None, IfSome, slice_get, refl, ap, sym, ◌∙◌, arith, length-drop}
+use Rattle.std.proofs.Math.Seq.{take-append_seam}
+use Rattle.std.proofs.lemmas.List.{get_or-drop, drop-set-add, drop-append-le, length-set, length_push, set-append_left}
+use Rattle.std.proofs.lemmas.Option.{slice_get-get_or}
 use Rattle.std.proofs.lemmas.List.Edits.{swap_is}
-use Rattle.std.specs.List.{remove_range, swap}
+use Rattle.std.specs.List.{remove_range, slice_index_or, swap, swap_remove}
 use Rattle.dp_value.specs.inner.Left.{left, row_at}
 
 -- ---- the rows that are left
@@ -93,18 +95,21 @@ left-next zero g xs = drop-next g xs
 left-next (suc s) g [] = sym (remove-nil (suc s))
 left-next (suc s) g (x ∷ xs) = ap (λ ys. x ∷ ys) (left-next s g xs)
 
-drop-past : {X : Type 0} (g : ℕ) (xs : List X) (x : X) → drop (suc g) (set xs g x) ≡ drop (suc g) xs
-drop-past zero [] x = refl
-drop-past zero (y ∷ xs) x = refl
-drop-past (suc g) [] x = refl
-drop-past (suc g) (y ∷ xs) x = drop-past g xs x
+-- whatever stands in a row that is removed
+drop-past : {X : Type 0} (g r : ℕ) (xs : List X) (x : X) → r < g → drop g (set xs r x) ≡ drop g xs
+drop-past zero r xs x below = absurd (omega arith)
+drop-past (suc g) zero [] x below = refl
+drop-past (suc g) (suc r) [] x below = refl
+drop-past (suc g) zero (y ∷ xs) x below = refl
+drop-past (suc g) (suc r) (y ∷ xs) x below = drop-past g r xs x (omega arith)
 
--- whatever stands in it
-pub left-past : {X : Type 0} (s g : ℕ) (xs : List X) (x : X) → left s (suc g) (set xs (s + g) x) ≡ left s (suc g) xs
-left-past zero g xs x = let e : 0 + g ≡ g = omega arith in rw e (drop-past g xs x)
-left-past (suc s) g [] x = refl
-left-past (suc s) g (y ∷ xs) x =
-    let e : suc s + g ≡ suc (s + g) = omega arith in rw e (ap (λ ys. y ∷ ys) (left-past s g xs x))
+pub left-past : {X : Type 0} (s g r : ℕ) (xs : List X) (x : X) → s ≤ r → r < s + g
+    → left s g (set xs r x) ≡ left s g xs
+left-past zero g r xs x from below = drop-past g r xs x (omega arith)
+left-past (suc s) g zero xs x from below = absurd (omega arith)
+left-past (suc s) g (suc r) [] x from below = refl
+left-past (suc s) g (suc r) (y ∷ xs) x from below =
+    ap (λ ys. y ∷ ys) (left-past s g r xs x (omega arith) (omega arith))
 
 -- ---- the first row behind those that are removed moves before them
 drop-read : {X : Type 0} (g : ℕ) (xs : List X) (v d : X) → g < length xs → v ≡ get_or xs g d
@@ -120,7 +125,7 @@ left-moved zero g [] v w d within at = absurd (omega arith)
 left-moved zero g (x ∷ xs) v w d within at =
     let e : 0 + suc g ≡ suc g = omega arith in
     let read : v ≡ get_or (x ∷ xs) (suc g) d = rw e at at in
-    rw e (ap (λ ys. v ∷ ys) (drop-past g xs w) ∙ sym (drop-read g xs v d (omega arith) read))
+    rw e (ap (λ ys. v ∷ ys) (drop-past (suc g) g xs w (omega arith)) ∙ sym (drop-read g xs v d (omega arith) read))
 left-moved (suc s) g [] v w d within at = absurd (omega arith)
 left-moved (suc s) g (x ∷ xs) v w d within at =
     let e : suc s + suc g ≡ suc (s + suc g) = omega arith in
@@ -134,3 +139,45 @@ left-swap s (suc g) [] some within = absurd (omega arith)
 left-swap s (suc g) (x ∷ xs) some within =
     ap (left (suc s) (suc g)) (sym (swap_is (x ∷ xs) s (s + suc g) x (omega arith) within))
     ∙ left-moved s g (x ∷ xs) (get_or (x ∷ xs) (s + suc g) x) (get_or (x ∷ xs) s x) x within refl
+
+-- the last row before them moves behind them
+drop-at : {X : Type 0} (g : ℕ) (xs : List X) (w : X) → g < length xs → drop g (set xs g w) ≡ w ∷ drop (suc g) xs
+drop-at zero [] w within = absurd (omega arith)
+drop-at zero (x ∷ xs) w within = refl
+drop-at (suc g) [] w within = absurd (omega arith)
+drop-at (suc g) (x ∷ xs) w within = drop-at g xs w (omega arith)
+
+left-back : {X : Type 0} (s g : ℕ) (xs : List X) (v w d : X) → s + suc g < length xs → w ≡ get_or xs s d
+    → left s (suc g) (set (set xs s v) (s + suc g) w) ≡ left (suc s) (suc g) xs
+left-back zero g [] v w d within at = absurd (omega arith)
+left-back zero g (x ∷ xs) v w d within at =
+    let e : 0 + suc g ≡ suc g = omega arith in
+    rw e (drop-at g xs w (omega arith) ∙ ap (λ y. y ∷ drop (suc g) xs) at)
+left-back (suc s) g [] v w d within at = absurd (omega arith)
+left-back (suc s) g (x ∷ xs) v w d within at =
+    let e : suc s + suc g ≡ suc (s + suc g) = omega arith in
+    rw e (ap (λ ys. x ∷ ys) (left-back s g xs v w d (omega arith) at))
+
+pub left-swap_back : {X : Type 0} (s g : ℕ) (xs : List X) → 0 < g → s + g < length xs
+    → left s g (swap xs s (s + g)) ≡ left (suc s) g xs
+left-swap_back s zero xs some within = absurd (omega arith)
+left-swap_back s (suc g) [] some within = absurd (omega arith)
+left-swap_back s (suc g) (x ∷ xs) some within =
+    ap (left s (suc g)) (sym (swap_is (x ∷ xs) s (s + suc g) x (omega arith) within))
+    ∙ left-back s g (x ∷ xs) (get_or (x ∷ xs) (s + suc g) x) (get_or (x ∷ xs) s x) x within refl
+
+-- another one takes the place of one that is removed
+pub left-freed : {X : Type 0} (s g r : ℕ) (xs ys : List X) (x : X) (o : Option X) → s ≤ r → r < s + g
+    → s + g ≤ length xs → o ≡ slice_get (xs ++ x ∷ []) r → IfSome o (λ k. ys ≡ swap_remove (xs ++ x ∷ []) r k)
+    → (left s g ys ≡ left s g xs) × (length ys ≡ length xs)
+left-freed s g r xs ys x None from below within read is =
+    absurd (cc (read ∙ slice_get-get_or (xs ++ x ∷ []) r x (omega (arith, length_push xs x))))
+left-freed s g r xs ys x (Some k) from below within read is =
+    let v = slice_index_or (xs ++ x ∷ []) (length (xs ++ x ∷ []) - 1) k in
+    let long : length (xs ++ x ∷ []) - 1 ≡ length (set xs r v) = omega (arith, length_push xs x, length-set xs r v) in
+    let same : ys ≡ set xs r v =
+    is
+    ∙ ap (λ (zs : List _). take (length (xs ++ x ∷ []) - 1) zs) (set-append_left xs (x ∷ []) r v (omega arith))
+    ∙ ap (λ (n : ℕ). take n (set xs r v ++ x ∷ [])) long
+    ∙ take-append_seam (set xs r v) (x ∷ []) in
+    (ap (left s g) same ∙ left-past s g r xs v from below, ap length same ∙ length-set xs r v)

@@ -10,7 +10,7 @@ use Rattle.dp_value.specs.declared.value.Value.TheVariants.{Null}
 use Rattle.dp_value.specs.Place.{IsAbsent, IsFirst}
 use Rattle.dp_value.specs.inner.Left.{left, row_at}
 use Rattle.dp_value.specs.inner.Rows.{AreNull, AreRows, GoesLast, Rises}
-use Rattle.dp_value.proofs.LeftLemmas.{length-left, left-next, left-none, left-push, left-remove, left-swap}
+use Rattle.dp_value.proofs.LeftLemmas.{length-left, left-next, left-none, left-push, left-remove, left-swap, left-swap_back}
 use Rattle.dp_value.proofs.RisingLemmas.{rising-remove}
 
 -- ---- the rows that are removed
@@ -90,6 +90,38 @@ AreNull-swap s (suc g) vs some are within =
     (swap_is vs s (s + suc g) Null (omega arith) within)
     (moved s g vs (get_or vs (s + suc g) Null) (get_or vs s Null) are within (first_null s g vs are))
 
+-- the last row before them moves behind them
+last_null : (s g : ℕ) (vs : List Value) → AreNull s (suc g) vs → get_or vs (s + g) Null ≡ Null
+last_null zero g [] are = absurd are
+last_null zero zero (v ∷ vs) are = are.0
+last_null zero (suc g) (v ∷ vs) are =
+    let e : 0 + suc g ≡ suc (0 + g) = omega arith in rw e (last_null zero g vs are.1)
+last_null (suc s) g [] are = absurd are
+last_null (suc s) g (v ∷ vs) are = let e : suc s + g ≡ suc (s + g) = omega arith in rw e (last_null s g vs are)
+
+last_set : (g : ℕ) (vs : List Value) (w : Value) → AreNull zero (suc g) vs → AreNull zero g (set vs g w)
+last_set zero vs w are = tt
+last_set (suc g) [] w are = absurd are
+last_set (suc g) (v ∷ vs) w are = (are.0, last_set g vs w are.1)
+
+back : (s g : ℕ) (vs : List Value) (v w : Value) → AreNull (suc s) (suc g) vs → v ≡ Null
+    → AreNull s (suc g) (set (set vs s v) (s + suc g) w)
+back s g [] v w are null = absurd are
+back zero g (x ∷ vs) v w are null =
+    let e : 0 + suc g ≡ suc g = omega arith in rw e (null, last_set g vs w are)
+back (suc s) g (x ∷ vs) v w are null =
+    let e : suc s + suc g ≡ suc (s + suc g) = omega arith in rw e (back s g vs v w are null)
+
+pub AreNull-back : (s g : ℕ) (vs : List Value) → 0 < g → AreNull (suc s) g vs → AreNull s g (swap vs s (s + g))
+AreNull-back s zero vs some are = absurd (omega arith)
+AreNull-back s (suc g) vs some are =
+    let within = nulls_within (suc s) (suc g) vs are in
+    let e : s + suc g ≡ suc s + g = omega arith in
+    let null : get_or vs (s + suc g) Null ≡ Null = rw e (last_null (suc s) g vs are) in
+    subst (λ (ws : List Value). AreNull s (suc g) ws)
+    (swap_is vs s (s + suc g) Null (omega arith) (omega arith))
+    (back s g vs (get_or vs (s + suc g) Null) (get_or vs s Null) are null)
+
 -- ---- columns of keys and of values
 rises-remove : (r : Bool) (ks : List Key) (i : ℕ) → Rises r ks → Rises r (remove ks i)
 rises-remove true ks i rise = rising-remove ks i rise
@@ -112,6 +144,14 @@ module _ {s g : ℕ} {r : Bool} {ks : List Key} {vs : List Value} (are : AreRows
     keys = record { within = are.keys.within; rises = tt };
     nulls = are.nulls;
     same_length = are.same_length;
+  }
+
+  -- with other keys, of which the same are left
+  pub rows-kept : (ls : List Key) → left s g ls ≡ left s g ks → length ls ≡ length ks → AreRows s g r ls vs
+  rows-kept ls same long = record {
+    keys = record { within = omega (arith, are.keys.within); rises = rw same are.keys.rises };
+    nulls = are.nulls;
+    same_length = are.same_length ∙ sym long;
   }
 
   -- one more behind them
@@ -162,6 +202,20 @@ module _ {s g : ℕ} {r : Bool} {ks : List Key} {vs : List Value} (are : AreRows
         nulls = AreNull-swap s g vs some are.nulls within;
         same_length = length-swap vs s (s + g) ∙ are.same_length ∙ sym (length-swap ks s (s + g));
       }
+
+-- the last row before those that are removed moves behind them
+pub rows-back : {s g : ℕ} {r : Bool} {ks : List Key} {vs : List Value} → AreRows (suc s) g r ks vs → 0 < g
+    → AreRows s g r (swap ks s (s + g)) (swap vs s (s + g))
+rows-back {s} {g} {r} {ks} {vs} are some =
+    let there : s + g < length ks = omega (arith, are.keys.within) in
+    record {
+      keys = record {
+        within = omega (arith, there, length-swap ks s (s + g));
+        rises = rw (left-swap_back s g ks some there) are.keys.rises;
+      };
+      nulls = AreNull-back s g vs some are.nulls;
+      same_length = length-swap vs s (s + g) ∙ are.same_length ∙ sym (length-swap ks s (s + g));
+    }
 
 -- where none is removed, they may begin anywhere
 pub rows-none : {s : ℕ} {r : Bool} {ks : List Key} {vs : List Value} → AreRows s 0 r ks vs → (t : ℕ) → t ≤ length vs

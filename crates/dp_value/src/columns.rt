@@ -25,6 +25,7 @@ impl Columns {
             values: Vec::new(alloc),
             start: 0,
             gone: 0,
+            closed: 0,
             largest: None,
             weight: 0,
         }
@@ -174,6 +175,7 @@ impl Columns {
             &mut self.values,
             &mut self.start,
             &mut self.gone,
+            &mut self.closed,
             at,
         );
         self.weight -= weight;

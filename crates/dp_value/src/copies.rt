@@ -54,6 +54,7 @@ impl Columns {
             values,
             start: self.start,
             gone: self.gone,
+            closed: 0,
             largest: self.largest,
             weight: self.weight,
         })

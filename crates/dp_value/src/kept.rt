@@ -145,14 +145,19 @@ impl Kept {
         }
     }
 
-    /// Whether a key that is not among those that are left can stand behind all rows.
-    pub(crate) fn takes(&self, start: usize, gone: usize, key: &Key) -> bool
-        requires { AreKeys start gone (is_rising self.now) (kept_keys self.now) }
-        ensures { IsTrue result → GoesLast start gone (is_rising self.now) (kept_keys self.now) key.now }
+    /// Whether a key that is not among those that are left can stand behind all rows. Another key takes its row in a
+    /// set, where it is removed.
+    pub(crate) fn takes(&mut self, start: usize, gone: usize, key: &Key) -> Result<bool, Memory>
+        requires { AreKeys start gone (is_rising self.old) (kept_keys self.old) }
+        ensures left { left start gone (kept_keys self.new) ≡ left start gone (kept_keys self.old) }
+        ensures same_length { length (kept_keys self.new) ≡ length (kept_keys self.old) }
+        ensures rises { is_rising self.new ≡ is_rising self.old }
+        ensures last { IfOk result (λ is. IsTrue is → GoesLast start gone (is_rising self.new) (kept_keys self.new)
+            key.now) }
     {
         match self {
-            Kept::Rising(keys) => goes_on(keys.as_slice(), start, gone, key),
-            Kept::Indexed(keys) => lacks(keys, key),
+            Kept::Rising(keys) => Ok(goes_on(keys.as_slice(), start, gone, key)),
+            Kept::Indexed(keys) => frees(keys, start, gone, key),
         }
     }
 }
@@ -263,6 +268,32 @@ fn indexed_row(keys: &IndexSet<Key>, key: &Key) -> Option<usize>
     ensures { MatchOption result (IsAbsent (key_eq key.now) keys.now.keys) (IsFirst (key_eq key.now) keys.now.keys) }
 {
     keys.get_index_of(key)
+}
+
+/// Whether a set lacks a key, once another one took its row where that is removed.
+fn frees(keys: &mut IndexSet<Key>, start: usize, gone: usize, key: &Key) -> Result<bool, Memory>
+    requires { start + gone ≤ length keys.old.keys }
+    ensures left { left start gone keys.new.keys ≡ left start gone keys.old.keys }
+    ensures same_length { length keys.new.keys ≡ length keys.old.keys }
+    ensures lacks { IfOk result (λ is. IsTrue is → IsAbsent (key_eq key.now) keys.new.keys) }
+{
+    let Some(row) = indexed_row(keys, key) else {
+        return Ok(true);
+    };
+    let rows = keys.len();
+    let other = spare(rows, row);
+    if row < start || start + gone <= row || !lacks(keys, &other) {
+        return Ok(false);
+    }
+    put_in(keys, other)?;
+    let _ = keys.swap_remove_index(row);
+    Ok(lacks(keys, key))
+}
+
+/// A key that hardly any program uses, another one for each number of rows and each row.
+fn spare(rows: usize, row: usize) -> Key {
+    let n = (rows as u64).wrapping_shl(32).wrapping_add(row as u64);
+    Key::Int(i64::MIN.wrapping_add_unsigned(n))
 }
 
 /// Whether a set lacks a key.

@@ -1,9 +1,10 @@
 //! The rows of an array: its keys and its values side by side, of which some may be removed already.
 //!
 //! A row that is removed may stay for a while, with null for a value. Such rows stand together, and move to where the
-//! next one is removed, by swaps with rows that are left; one that stands closer to the end goes by closing up. Where
-//! as many are removed as are left, they are cleared before the next removal. So a queue, and a sweep over all entries,
-//! take a constant time for each entry on average, and at most one row more is removed than are left.
+//! next one is removed, by swaps with rows that are left; one that stands closer to the end goes by closing up, until
+//! as much has closed up as to move takes. They are cleared before the next removal where as many are removed as are
+//! left, and where that takes less than to move them to the front. So a queue, and a sweep either way, take a constant
+//! time for each entry on average, and at most one row more is removed than are left.
 
 ghost use Rattle.std.specs.Prelude.{◌≡◌, ◌+◌, ◌<◌, ◌≤◌, ◌++◌, ◌∷◌, [], get_or, length, remove, set, OnOk, OnErr};
 ghost use Rattle.std.specs.Prelude.{IsTrue};
@@ -89,7 +90,7 @@ fn make_way(
     ensures rows { AreRows start.new gone.new (is_rising kept.new) (kept_keys kept.new) values.new.items }
     ensures way { OnOk result (GoesLast start.new gone.new (is_rising kept.new) (kept_keys kept.new) key.now) }
 {
-    if kept.takes(*start, *gone, key) {
+    if kept.takes(*start, *gone, key)? {
         return Ok(());
     }
     clear_rows(kept, values, start, gone);
@@ -126,6 +127,7 @@ pub(crate) fn take_out(
     values: &mut Vec<Value>,
     start: &mut usize,
     gone: &mut usize,
+    closed: &mut usize,
     at: usize,
 ) -> u64
     requires rows { AreRows start.old gone.old (is_rising kept.old) (kept_keys kept.old) values.old.items }
@@ -141,7 +143,7 @@ pub(crate) fn take_out(
     let key = kept.at(*start, *gone, at);
     let value = nth_value(values, *start, *gone, at);
     let weight = 1 + key.weight() + weight(value);
-    take_row(kept, values, start, gone, at);
+    take_row(kept, values, start, gone, closed, at);
     weight
 }
 
@@ -151,6 +153,7 @@ fn take_row(
     values: &mut Vec<Value>,
     start: &mut usize,
     gone: &mut usize,
+    closed: &mut usize,
     at: usize,
 )
     requires rows { AreRows start.old gone.old (is_rising kept.old) (kept_keys kept.old) values.old.items }
@@ -160,8 +163,8 @@ fn take_row(
     ensures values { left start.new gone.new values.new.items ≡ remove (left start.old gone.old values.old.items) at }
     ensures rows { AreRows start.new gone.new (is_rising kept.new) (kept_keys kept.new) values.new.items }
 {
-    clear_many(kept, values, start, gone);
-    remove_row(kept, values, start, gone, at);
+    clear_many(kept, values, start, gone, at);
+    remove_row(kept, values, start, gone, closed, at);
 }
 
 /// The same where fewer rows are removed than are left.
@@ -170,6 +173,7 @@ fn remove_row(
     values: &mut Vec<Value>,
     start: &mut usize,
     gone: &mut usize,
+    closed: &mut usize,
     at: usize,
 )
     requires rows { AreRows start.old gone.old (is_rising kept.old) (kept_keys kept.old) values.old.items }
@@ -180,7 +184,7 @@ fn remove_row(
     ensures rows { AreRows start.new gone.new (is_rising kept.new) (kept_keys kept.new) values.new.items }
 {
     let rows = kept.len();
-    if closes_up(*start, *gone, at, rows) {
+    if closes_up(*start, *gone, at, rows, closed) {
         kept.remove(*gone + at);
         let _ = values.remove(*gone + at);
         return;
@@ -190,29 +194,40 @@ fn remove_row(
     *gone += 1;
 }
 
-/// Clears the rows that are removed already where they are as many as those that are left.
-fn clear_many(kept: &mut Kept, values: &mut Vec<Value>, start: &mut usize, gone: &mut usize)
+/// Clears the rows that are removed already where they are as many as those that are left, and where no more rows stand
+/// behind them than between them and a row before them.
+fn clear_many(
+    kept: &mut Kept,
+    values: &mut Vec<Value>,
+    start: &mut usize,
+    gone: &mut usize,
+    at: usize,
+)
     requires { AreRows start.old gone.old (is_rising kept.old) (kept_keys kept.old) values.old.items }
     ensures keys { left start.new gone.new (kept_keys kept.new) ≡ left start.old gone.old (kept_keys kept.old) }
     ensures values { left start.new gone.new values.new.items ≡ left start.old gone.old values.old.items }
     ensures rows { AreRows start.new gone.new (is_rising kept.new) (kept_keys kept.new) values.new.items }
 {
-    if *gone >= kept.len() - *gone {
+    let left = kept.len() - *gone;
+    if *gone >= left || (at < *start && left - *start <= *start - at) {
         clear_rows(kept, values, start, gone);
     }
 }
 
-/// Whether a row behind those that are removed goes by closing up: the last one, or one that stands no farther from the
-/// end than from them.
-fn closes_up(start: usize, gone: usize, at: usize, rows: usize) -> bool
+/// Whether a row behind those that are removed goes by closing up: the last one, or where no more rows have closed up
+/// with it, since those that are removed moved, than stand between. What has closed up is counted.
+fn closes_up(start: usize, gone: usize, at: usize, rows: usize, closed: &mut usize) -> bool
     requires { gone + at < rows }
     ensures { IsTrue result → start ≤ at }
 {
     let behind = rows - gone - at;
-    start <= at && (behind == 1 || (gone > 0 && behind <= at - start))
+    let all = closed.saturating_add(behind);
+    let closes = start <= at && (behind == 1 || (gone > 0 && all <= at - start));
+    *closed = if closes { all } else { 0 };
+    closes
 }
 
-/// Has the rows that are removed stand before the row at a position. They are cleared where they stand behind it.
+/// Has the rows that are removed stand before the row at a position.
 fn move_rows(
     kept: &mut Kept,
     values: &mut Vec<Value>,
@@ -233,14 +248,31 @@ fn move_rows(
         return;
     }
     if at < *start {
-        clear_rows(kept, values, start, gone);
-        *start = at;
+        move_back(kept, values, start, *gone, at);
         return;
     }
     'rows: while *start < at {
         kept.swap(*start, *start + *gone);
         values.swap(*start, *start + *gone);
         *start += 1;
+    }
+}
+
+/// The same towards the front, where some are removed.
+fn move_back(kept: &mut Kept, values: &mut Vec<Value>, start: &mut usize, gone: usize, at: usize)
+    requires rows { AreRows start.old gone (is_rising kept.old) (kept_keys kept.old) values.old.items }
+    requires some { 0 < gone }
+    requires back { at ≤ start.old }
+    ensures keys { left start.new gone (kept_keys kept.new) ≡ left start.old gone (kept_keys kept.old) }
+    ensures values { left start.new gone values.new.items ≡ left start.old gone values.old.items }
+    ensures rows { AreRows start.new gone (is_rising kept.new) (kept_keys kept.new) values.new.items }
+    ensures there { start.new ≡ at }
+    ensures same_length { length values.new.items ≡ length values.old.items }
+{
+    'rows: while at < *start {
+        *start -= 1;
+        kept.swap(*start, *start + gone);
+        values.swap(*start, *start + gone);
     }
 }
 

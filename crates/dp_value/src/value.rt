@@ -59,7 +59,8 @@ impl Model for PhpArray {
 }
 
 /// What an array keeps behind its pointer: its keys and its values side by side, from which row on how many are removed
-/// already, the largest integer key ever used, and the weight of what is left. A value that is removed is null.
+/// already, how many closed up since these moved, the largest integer key ever used, and the weight of what is left. A
+/// value that is removed is null.
 #[cycle(value)]
 #[derive(Debug, Drop)]
 pub struct Columns {
@@ -67,6 +68,7 @@ pub struct Columns {
     pub(crate) values: Vec<Value>,
     pub(crate) start: usize,
     pub(crate) gone: usize,
+    pub(crate) closed: usize,
     pub(crate) largest: Option<i64>,
     pub(crate) weight: u64,
 }

@@ -1,9 +1,6 @@
-use Rattle.std.proofs.Common.{refl}
+use Rattle.std.proofs.Common.{◌∙◌}
 use Rattle.dp_value.proofs.RowLemmas.{rows-indexed}
 use Rattle.dp_value.proofs.rows.make_way.Goals as goal
-
-pub returns-then-takes-clause-way : goal.returns-then-takes-clause-way
-returns-then-takes-clause-way c = c.if-takes.ensures refl
 
 pub index-requires : goal.index-requires
 index-requires c =
@@ -11,7 +8,8 @@ index-requires c =
 
 pub returns-in_err-index-clause-keys : goal.returns-in_err-index-clause-keys
 returns-in_err-index-clause-keys c =
-    rw (c.clear_rows.ensures.start, c.clear_rows.ensures.none, c.in_err-index.ensures.keys) c.clear_rows.ensures.keys
+    rw (c.clear_rows.ensures.start, c.clear_rows.ensures.none, c.in_err-index.ensures.keys)
+    (c.clear_rows.ensures.keys ∙ c.takes.ensures.left)
 
 pub returns-in_err-index-clause-values : goal.returns-in_err-index-clause-values
 returns-in_err-index-clause-values c =
@@ -23,7 +21,8 @@ returns-in_err-index-clause-rows c =
 
 pub returns-clause-keys : goal.returns-clause-keys
 returns-clause-keys c =
-    rw (c.clear_rows.ensures.start, c.clear_rows.ensures.none, c.in_ok-index.ensures.keys) c.clear_rows.ensures.keys
+    rw (c.clear_rows.ensures.start, c.clear_rows.ensures.none, c.in_ok-index.ensures.keys)
+    (c.clear_rows.ensures.keys ∙ c.takes.ensures.left)
 
 pub returns-clause-values : goal.returns-clause-values
 returns-clause-values c = rw (c.clear_rows.ensures.start, c.clear_rows.ensures.none) c.clear_rows.ensures.values
@@ -34,4 +33,5 @@ returns-clause-rows c =
 
 pub returns-clause-way : goal.returns-clause-way
 returns-clause-way c =
-    rw (c.in_ok-index.ensures.indexed, c.in_ok-index.ensures.keys, c.clear_rows.ensures.keys) c.requires.absent
+    rw (c.in_ok-index.ensures.indexed, c.in_ok-index.ensures.keys, c.clear_rows.ensures.keys, c.takes.ensures.left)
+    c.requires.absent

@@ -3,8 +3,7 @@ use Rattle.dp_value.specs.declared.key.Key.{Key}
 use Rattle.dp_value.specs.inner.Kept.{kept_keys}
 use Rattle.dp_value.specs.inner.Left.{left}
 use Rattle.dp_value.proofs.LeftLemmas.{length-left, left-none, left-swap}
-use Rattle.dp_value.proofs.RowLemmas.{rows-length, rows-none, rows-swap}
-use Rattle.dp_value.proofs.rows.move_rows.Goals.{After-clear_rows}
+use Rattle.dp_value.proofs.RowLemmas.{rows-none, rows-swap}
 use Rattle.dp_value.proofs.rows.move_rows.Goals as goal
 
 -- nothing is removed, so it stands anywhere
@@ -29,36 +28,14 @@ returns-then-gone-eq0-clause-rows c =
 pub returns-then-gone-eq0-clause-room : goal.returns-then-gone-eq0-clause-room
 returns-then-gone-eq0-clause-room c = omega (arith, c.requires.there, c.requires.rows.same_length)
 
-pub returns-then-at-start-clause-keys : goal.returns-then-at-start-clause-keys
-returns-then-at-start-clause-keys c =
-    rw (c.clear_rows.ensures.none, left-none c.args.at (kept_keys c.clear_rows.new.kept)) c.clear_rows.ensures.keys
-
-pub returns-then-at-start-clause-values : goal.returns-then-at-start-clause-values
-returns-then-at-start-clause-values c =
-    rw (c.clear_rows.ensures.none, left-none c.args.at c.clear_rows.new.values.items) c.clear_rows.ensures.values
-
-there : (c : After-clear_rows) → c.args.at < length c.clear_rows.new.values.items
-there c =
-    omega (
-      arith,
-      c.requires.there,
-      ap length c.clear_rows.ensures.values,
-      rows-length c.requires.rows,
-      length-left c.args.start.now c.args.gone.now (kept_keys c.args.kept.now) c.requires.rows.keys.within,
-    )
-
-pub returns-then-at-start-clause-rows : goal.returns-then-at-start-clause-rows
-returns-then-at-start-clause-rows c =
-    let within = there (goal.at.returns-then-at-start-clause-rows c).After-clear_rows in
-    rw c.clear_rows.ensures.none
-    (rows-none (rw c.clear_rows.ensures.none at c.clear_rows.ensures.rows) c.args.at (omega (arith, within)))
-
 pub returns-then-at-start-clause-room : goal.returns-then-at-start-clause-room
 returns-then-at-start-clause-room c =
     omega (
       arith,
-      there (goal.at.returns-then-at-start-clause-room c).After-clear_rows,
-      c.clear_rows.ensures.none,
+      c.requires.there,
+      c.requires.rows.same_length,
+      c.move_back.ensures.there,
+      c.move_back.ensures.same_length,
     )
 
 -- there is a row behind those that are removed

@@ -1,4 +1,4 @@
-use Rattle.std.proofs.Common.{◌≡◌, ℕ, ◌+◌, List, remove, set, ap, ◌∙◌, add-one, arith}
+use Rattle.std.proofs.Common.{◌≡◌, ℕ, suc, ◌+◌, List, remove, set, ap, ◌∙◌, add-one, arith}
 use Rattle.dp_value.specs.declared.key.Key.{Key}
 use Rattle.dp_value.specs.declared.value.Value.{Value}
 use Rattle.dp_value.specs.declared.value.Value.TheVariants.{Null}
@@ -41,7 +41,7 @@ returns-clause-values c =
     let g = c.move_rows.new.gone in
     let vs = c.move_rows.new.values.items in
     let next : left s (g + 1) (set vs (s + g) Null) ≡ remove (left s g vs) s =
-    rw add-one (left-past s g vs Null ∙ left-next s g vs) in
+    rw add-one (left-past s (suc g) (s + g) vs Null (omega arith) (omega arith) ∙ left-next s g vs) in
     next ∙ ap (λ (n : ℕ). remove (left s g vs) n) c.move_rows.ensures.there
     ∙ ap (λ (xs : List Value). remove xs c.args.at) c.move_rows.ensures.values
 
