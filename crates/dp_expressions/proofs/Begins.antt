@@ -6,6 +6,8 @@ use Rattle.dp_lexer.specs.declared.token.TokenKind.TheVariants as kind
 use Rattle.dp_lexer.specs.Keywords.{is_reserved}
 use Rattle.dp_expressions.specs.declared.operand.Part.TheVariants as part
 use Rattle.dp_expressions.specs.declared.rank.Rank.{Rank}
+use Rattle.dp_token_rules.specs.declared.terminal.Terminal.TheVariants.{Of}
+use Rattle.dp_lexer.specs.declared.token.Word.TheVariants as word
 use Rattle.dp_token_rules.specs.declared.terminal.Terminal.{Terminal}
 use Rattle.dp_token_rules.specs.declared.terminal.Terminal.TheVariants as terminal
 use Rattle.dp_tree.specs.declared.tree.Expression.{Expression}
@@ -222,22 +224,22 @@ module _ (x : Token) where
         }),
       )
 
-  by_group : is terminal.OpenParenthesis (terminal_of x.kind) ≡ true → Opened x
+  by_group : is (Of word.OpenParenthesis) (terminal_of x.kind) ≡ true → Opened x
   by_group e =
-      let close = placed kind.CloseParenthesis ∷ [] in (
+      let close = placed (kind.Word word.CloseParenthesis) ∷ [] in (
         zero_token ∷ close,
         zero_tree,
         whole_of 1 (x ∷ (zero_token ∷ close)) zero_tree (primary_of 1 (x ∷ (zero_token ∷ close)) zero_tree
             (inr (inr (inl (record {
               some = omega arith;
               spelled =
-                  marked terminal.OpenParenthesis x (Joined (Under part.Whole 1)
-                  (λ within. Joined (Mark terminal.CloseParenthesis) (λ _. Gives within)))
+                  marked (Of word.OpenParenthesis) x (Joined (Under part.Whole 1)
+                  (λ within. Joined (Mark (Of word.CloseParenthesis)) (λ _. Gives within)))
                   (zero_token ∷ close) zero_tree e
-                  (behind (Under part.Whole 1) (λ within. Joined (Mark terminal.CloseParenthesis) (λ _. Gives within))
+                  (behind (Under part.Whole 1) (λ within. Joined (Mark (Of word.CloseParenthesis)) (λ _. Gives within))
                   zero_text close zero_tree zero_tree (least_whole 0 (inner 0))
-                  (then_nothing (Mark terminal.CloseParenthesis) (λ _. Gives zero_tree) close 1 zero_tree
-                  (mark_alone terminal.CloseParenthesis kind.CloseParenthesis refl) (gives_it zero_tree)));
+                  (then_nothing (Mark (Of word.CloseParenthesis)) (λ _. Gives zero_tree) close 1 zero_tree
+                  (mark_alone (Of word.CloseParenthesis) (kind.Word word.CloseParenthesis) refl) (gives_it zero_tree)));
             }))))),
       )
 
@@ -246,37 +248,38 @@ module _ (x : Token) where
       → same_terminal (terminal_of k) close ≡ true → AnyItems item close (placed k ∷ []) []
   no_items item close k e = inl (give (Mark close) (λ _. []) (placed k ∷ []) 1 (mark_alone close k e))
 
-  by_literal : is terminal.OpenBracket (terminal_of x.kind) ≡ true → Opened x
+  by_literal : is (Of word.OpenBracket) (terminal_of x.kind) ≡ true → Opened x
   by_literal e =
-      let close = placed kind.CloseBracket ∷ [] in
-      let items = AnyItems (λ _. ItemAt 1) terminal.CloseBracket in (
+      let close = placed (kind.Word word.CloseBracket) ∷ [] in
+      let items = AnyItems (λ _. ItemAt 1) (Of word.CloseBracket) in (
         close,
         tree.Array [],
         whole_of 1 (x ∷ close) (tree.Array []) (primary_of 1 (x ∷ close) (tree.Array [])
             (inr (inr (inr (inl (record {
               some = omega arith;
-              spelled = marked terminal.OpenBracket x (Made items tree.Array) close (tree.Array []) e
-                  (give items tree.Array close [] (no_items (λ _. ItemAt 1) terminal.CloseBracket kind.CloseBracket
+              spelled = marked (Of word.OpenBracket) x (Made items tree.Array) close (tree.Array []) e
+                  (give items tree.Array close [] (no_items (λ _. ItemAt 1) (Of word.CloseBracket)
+                  (kind.Word word.CloseBracket)
                   refl));
             })))))),
       )
 
-  by_array : is terminal.Array (terminal_of x.kind) ≡ true → Opened x
+  by_array : is (Of word.Array) (terminal_of x.kind) ≡ true → Opened x
   by_array e =
-      let close = placed kind.CloseParenthesis ∷ [] in
-      let open_ = placed kind.OpenParenthesis in
-      let items = AnyItems (λ _. ItemAt 1) terminal.CloseParenthesis in (
+      let close = placed (kind.Word word.CloseParenthesis) ∷ [] in
+      let open_ = placed (kind.Word word.OpenParenthesis) in
+      let items = AnyItems (λ _. ItemAt 1) (Of word.CloseParenthesis) in (
         open_ ∷ close,
         tree.Array [],
         whole_of 1 (x ∷ (open_ ∷ close)) (tree.Array []) (primary_of 1 (x ∷ (open_ ∷ close)) (tree.Array [])
             (inr (inr (inr (inr (inl (record {
               some = omega arith;
               spelled =
-                  marked terminal.Array x (Joined (Mark terminal.OpenParenthesis) (λ _. Made items tree.Array))
+                  marked (Of word.Array) x (Joined (Mark (Of word.OpenParenthesis)) (λ _. Made items tree.Array))
                   (open_ ∷ close) (tree.Array []) e
-                  (marked terminal.OpenParenthesis open_ (Made items tree.Array) close (tree.Array []) refl
-                  (give items tree.Array close [] (no_items (λ _. ItemAt 1) terminal.CloseParenthesis
-                  kind.CloseParenthesis refl)));
+                  (marked (Of word.OpenParenthesis) open_ (Made items tree.Array) close (tree.Array []) refl
+                  (give items tree.Array close [] (no_items (λ _. ItemAt 1) (Of word.CloseParenthesis)
+                  (kind.Word word.CloseParenthesis) refl)));
             }))))))),
       )
 
@@ -293,11 +296,11 @@ module _ (x : Token) where
         }))))))))),
   )
 
-  one_place : SomeItems (λ _. PlaceUnder 1) terminal.CloseParenthesis
-      (placed (kind.Variable variable_name) ∷ (placed kind.CloseParenthesis ∷ [])) (variable_place ∷ [])
+  one_place : SomeItems (λ _. PlaceUnder 1) (Of word.CloseParenthesis)
+      (placed (kind.Variable variable_name) ∷ (placed (kind.Word word.CloseParenthesis) ∷ [])) (variable_place ∷ [])
   one_place =
-      let close = placed kind.CloseParenthesis ∷ [] in
-      let end : Rule ℕ = Joined (Perhaps (Mark terminal.Comma)) (λ _. Mark terminal.CloseParenthesis) in
+      let close = placed (kind.Word word.CloseParenthesis) ∷ [] in
+      let end : Rule ℕ = Joined (Perhaps (Mark (Of word.Comma))) (λ _. Mark (Of word.CloseParenthesis)) in
       behind (PlaceUnder 1) (λ first. Closed (NextItem (λ _. PlaceUnder 1)) (λ all. Made end (λ _. all)) (first ∷ []))
       variable_text close variable_place (variable_place ∷ []) (least_place ((inner 1).index))
       (no_more (NextItem (λ _. PlaceUnder 1)) (λ all. Made end (λ _. all)) (variable_place ∷ []) close
@@ -310,14 +313,14 @@ module _ (x : Token) where
         split = refl;
         one = inr
             (gives_it None);
-        other = mark_alone terminal.CloseParenthesis kind.CloseParenthesis refl;
+        other = mark_alone (Of word.CloseParenthesis) (kind.Word word.CloseParenthesis) refl;
       })))
 
-  by_isset : is terminal.Isset (terminal_of x.kind) ≡ true → Opened x
+  by_isset : is (Of word.Isset) (terminal_of x.kind) ≡ true → Opened x
   by_isset e =
-      let open_ = placed kind.OpenParenthesis in
-      let rest = placed (kind.Variable variable_name) ∷ (placed kind.CloseParenthesis ∷ []) in
-      let items = SomeItems (λ _. PlaceUnder 1) terminal.CloseParenthesis in
+      let open_ = placed (kind.Word word.OpenParenthesis) in
+      let rest = placed (kind.Variable variable_name) ∷ (placed (kind.Word word.CloseParenthesis) ∷ []) in
+      let items = SomeItems (λ _. PlaceUnder 1) (Of word.CloseParenthesis) in
       let found = tree.Isset (variable_place ∷ []) in (
         open_ ∷ rest,
         found,
@@ -325,9 +328,9 @@ module _ (x : Token) where
             (inr (inr (inr (inr (inl (record {
               some = omega arith;
               spelled =
-                  marked terminal.Isset x (Joined (Mark terminal.OpenParenthesis) (λ _. Made items tree.Isset))
+                  marked (Of word.Isset) x (Joined (Mark (Of word.OpenParenthesis)) (λ _. Made items tree.Isset))
                   (open_ ∷ rest) found e
-                  (marked terminal.OpenParenthesis open_ (Made items tree.Isset) rest found refl
+                  (marked (Of word.OpenParenthesis) open_ (Made items tree.Isset) rest found refl
                   (give items tree.Isset rest (variable_place ∷ []) one_place));
             })))))),
       )
@@ -347,20 +350,21 @@ module _ (x : Token) where
   by_kind_of (kind.Name name) e begins = name_opens name (is_reserved name) refl e begins
   by_kind_of (kind.Number n) e begins = by_number n (ap number_in e)
   by_kind_of (kind.Text bytes) e begins = by_text bytes (ap text_in e)
-  by_kind_of kind.Null e begins = by_constant (ap (λ k. is_some (constant_in (terminal_of k))) e)
-  by_kind_of kind.True e begins = by_constant (ap (λ k. is_some (constant_in (terminal_of k))) e)
-  by_kind_of kind.False e begins = by_constant (ap (λ k. is_some (constant_in (terminal_of k))) e)
-  by_kind_of kind.Bang e begins = by_prefix (ap (λ k. is_some (prefix_in (terminal_of k))) e)
-  by_kind_of kind.Minus e begins = by_prefix (ap (λ k. is_some (prefix_in (terminal_of k))) e)
-  by_kind_of kind.Plus e begins = by_prefix (ap (λ k. is_some (prefix_in (terminal_of k))) e)
-  by_kind_of kind.Increment e begins = by_step (ap (λ k. is_some (step_in (terminal_of k))) e)
-  by_kind_of kind.Decrement e begins = by_step (ap (λ k. is_some (step_in (terminal_of k))) e)
-  by_kind_of kind.Include e begins = by_inclusion (ap (λ k. is_some (inclusion_in (terminal_of k))) e)
-  by_kind_of kind.Require e begins = by_inclusion (ap (λ k. is_some (inclusion_in (terminal_of k))) e)
-  by_kind_of kind.OpenParenthesis e begins = by_group (ap (λ k. is terminal.OpenParenthesis (terminal_of k)) e)
-  by_kind_of kind.OpenBracket e begins = by_literal (ap (λ k. is terminal.OpenBracket (terminal_of k)) e)
-  by_kind_of kind.Array e begins = by_array (ap (λ k. is terminal.Array (terminal_of k)) e)
-  by_kind_of kind.Isset e begins = by_isset (ap (λ k. is terminal.Isset (terminal_of k)) e)
+  by_kind_of (kind.Word word.Null) e begins = by_constant (ap (λ k. is_some (constant_in (terminal_of k))) e)
+  by_kind_of (kind.Word word.True) e begins = by_constant (ap (λ k. is_some (constant_in (terminal_of k))) e)
+  by_kind_of (kind.Word word.False) e begins = by_constant (ap (λ k. is_some (constant_in (terminal_of k))) e)
+  by_kind_of (kind.Word word.Bang) e begins = by_prefix (ap (λ k. is_some (prefix_in (terminal_of k))) e)
+  by_kind_of (kind.Word word.Minus) e begins = by_prefix (ap (λ k. is_some (prefix_in (terminal_of k))) e)
+  by_kind_of (kind.Word word.Plus) e begins = by_prefix (ap (λ k. is_some (prefix_in (terminal_of k))) e)
+  by_kind_of (kind.Word word.Increment) e begins = by_step (ap (λ k. is_some (step_in (terminal_of k))) e)
+  by_kind_of (kind.Word word.Decrement) e begins = by_step (ap (λ k. is_some (step_in (terminal_of k))) e)
+  by_kind_of (kind.Word word.Include) e begins = by_inclusion (ap (λ k. is_some (inclusion_in (terminal_of k))) e)
+  by_kind_of (kind.Word word.Require) e begins = by_inclusion (ap (λ k. is_some (inclusion_in (terminal_of k))) e)
+  by_kind_of (kind.Word word.OpenParenthesis) e begins = by_group
+      (ap (λ k. is (Of word.OpenParenthesis) (terminal_of k)) e)
+  by_kind_of (kind.Word word.OpenBracket) e begins = by_literal (ap (λ k. is (Of word.OpenBracket) (terminal_of k)) e)
+  by_kind_of (kind.Word word.Array) e begins = by_array (ap (λ k. is (Of word.Array) (terminal_of k)) e)
+  by_kind_of (kind.Word word.Isset) e begins = by_isset (ap (λ k. is (Of word.Isset) (terminal_of k)) e)
   by_kind_of _ e begins = absurd (cc)
 
 -- such a token begins an expression with one level of nesting

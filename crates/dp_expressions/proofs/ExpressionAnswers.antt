@@ -8,8 +8,9 @@ use Rattle.dp_expressions.specs.declared.operand.Part.{Part}
 use Rattle.dp_expressions.specs.declared.operand.Part.TheVariants as part
 use Rattle.dp_expressions.specs.declared.rank.Rank.{Rank}
 use Rattle.dp_expressions.specs.declared.rank.Rank.TheVariants as rank
+use Rattle.dp_token_rules.specs.declared.terminal.Terminal.TheVariants.{Of}
+use Rattle.dp_lexer.specs.declared.token.Word.TheVariants as word
 use Rattle.dp_token_rules.specs.declared.terminal.Terminal.{Terminal}
-use Rattle.dp_token_rules.specs.declared.terminal.Terminal.TheVariants as terminal
 use Rattle.dp_tree.specs.declared.tree.Expression.{Expression}
 use Rattle.dp_tree.specs.declared.tree.Expression.TheVariants as tree
 use Rattle.dp_tree.specs.declared.tree.Place.{Place}
@@ -36,7 +37,7 @@ use Rattle.dp_token_rules.specs.TokenValues.{by_terminal}
 -- ---- behind operands
 
 abbrev CoalesceTailAt : Rules ℕ Expression
-CoalesceTailAt = JoinedAt (MarkAt terminal.Coalesce) (λ _. Under part.Coalesce)
+CoalesceTailAt = JoinedAt (MarkAt (Of word.Coalesce)) (λ _. Under part.Coalesce)
 
 abbrev CoalescedAt : Expression → Rules ℕ Expression
 CoalescedAt left = MadeAt (NestedAt CoalesceTailAt) (λ right. tree.Coalesce left right)
@@ -55,7 +56,7 @@ MiddleAt = PerhapsAt (NestedAt (Under part.Whole))
 
 abbrev OtherwiseAt : Expression → Option Expression → Rules ℕ Expression
 OtherwiseAt test between =
-    JoinedAt (MarkAt terminal.Colon) (λ _. MadeAt CoalesceAt (λ otherwise. tree.Conditional test between otherwise))
+    JoinedAt (MarkAt (Of word.Colon)) (λ _. MadeAt CoalesceAt (λ otherwise. tree.Conditional test between otherwise))
 
 abbrev GoingAt : Expression → Rules ℕ Expression
 GoingAt first m = Going m (inner m) first
@@ -69,38 +70,39 @@ AssignmentAt to m = AssignmentTail m (inner m) to
 abbrev RestAt : Operand → Rules ℕ Expression
 RestAt v m = Rest m (inner m) v
 
-coalesced_starts : (left : Expression) → StartsIn (CoalescedAt left) (is terminal.Coalesce)
-coalesced_starts left = made_starts (NestedAt CoalesceTailAt) (λ right. tree.Coalesce left right) (is terminal.Coalesce)
-    (nests_starts (λ m. m) CoalesceTailAt (is terminal.Coalesce)
-    (joined_starts (MarkAt terminal.Coalesce) (λ _. Under part.Coalesce) (is terminal.Coalesce)
-    (mark_starts terminal.Coalesce)))
+coalesced_starts : (left : Expression) → StartsIn (CoalescedAt left) (is (Of word.Coalesce))
+coalesced_starts left = made_starts (NestedAt CoalesceTailAt) (λ right. tree.Coalesce left right)
+    (is (Of word.Coalesce))
+    (nests_starts (λ m. m) CoalesceTailAt (is (Of word.Coalesce))
+    (joined_starts (MarkAt (Of word.Coalesce)) (λ _. Under part.Coalesce) (is (Of word.Coalesce))
+    (mark_starts (Of word.Coalesce))))
 
-branches_starts : (test : Expression) → StartsIn (BranchesAt test) (is terminal.Question)
+branches_starts : (test : Expression) → StartsIn (BranchesAt test) (is (Of word.Question))
 branches_starts test =
-    joined_starts (MarkAt terminal.Question) (λ _. JoinedAt MiddleAt (OtherwiseAt test)) (is terminal.Question)
-    (mark_starts terminal.Question)
+    joined_starts (MarkAt (Of word.Question)) (λ _. JoinedAt MiddleAt (OtherwiseAt test)) (is (Of word.Question))
+    (mark_starts (Of word.Question))
 
 assignment_starts : (to : Place) → StartsIn (AssignmentAt to) begins_assignment
 assignment_starts to m text a h =
     joined_starts (OneAt (by_terminal assignment_in)) (λ how. MadeAt (Under part.Whole) (assigned to how))
     begins_assignment (sort_starts assignment_in) m text a h.spelled
 
-coalesce_rest_pass : (t : Terminal → Bool) → t terminal.Coalesce ≡ true
+coalesce_rest_pass : (t : Terminal → Bool) → t (Of word.Coalesce) ≡ true
     → Follows {A = Expression} (λ _ s. t s) CoalesceRestAt (λ _ s. t s)
 coalesce_rest_pass t passes = either_follows (λ _ s. t s) CoalescedAt (λ left. GivesAt left) (λ _ s. t s)
-    (starts_follow (λ _ s. t s) CoalescedAt (λ _ s. t s) (is terminal.Coalesce)
-    (λ a s e. mark_passes t terminal.Coalesce passes s e) coalesced_starts)
+    (starts_follow (λ _ s. t s) CoalescedAt (λ _ s. t s) (is (Of word.Coalesce))
+    (λ a s e. mark_passes t (Of word.Coalesce) passes s e) coalesced_starts)
     (gives_follow (λ left. left) (λ _ s. t s) (λ _ s. t s) (λ a s e. e))
 
-conditional_rest_pass : (t : Terminal → Bool) → t terminal.Question ≡ true
+conditional_rest_pass : (t : Terminal → Bool) → t (Of word.Question) ≡ true
     → Follows {A = Expression} (λ _ s. t s) ConditionalRestAt (λ _ s. t s)
 conditional_rest_pass t passes = either_follows (λ _ s. t s) BranchesAt (λ test. GivesAt test) (λ _ s. t s)
-    (starts_follow (λ _ s. t s) BranchesAt (λ _ s. t s) (is terminal.Question)
-    (λ a s e. mark_passes t terminal.Question passes s e) branches_starts)
+    (starts_follow (λ _ s. t s) BranchesAt (λ _ s. t s) (is (Of word.Question))
+    (λ a s e. mark_passes t (Of word.Question) passes s e) branches_starts)
     (gives_follow (λ test. test) (λ _ s. t s) (λ _ s. t s) (λ a s e. e))
 
 going_pass : (t : Terminal → Bool) → ((r : Rank) (s : Terminal) → operates r s ≡ true → t s ≡ true)
-    → t terminal.Coalesce ≡ true → t terminal.Question ≡ true
+    → t (Of word.Coalesce) ≡ true → t (Of word.Question) ≡ true
     → Follows {A = Expression} (λ _ s. t s) GoingAt (λ _ s. t s)
 going_pass t operators coalesces asks =
     joined_follows (λ _ s. t s) (λ first. JoinedAt (FromAt OperandAt ranks first) CoalesceRestAt)
@@ -164,7 +166,7 @@ level_behind zero = zero
 level_behind (suc m) = m
 
 PushedAt : Place → Rules ℕ Expression
-PushedAt to m = Joined (Mark terminal.Assign) (λ _. Made (IsExpression (level_behind m)) (tree.Push to))
+PushedAt to m = Joined (Mark (Of word.Assign)) (λ _. Made (IsExpression (level_behind m)) (tree.Push to))
 
 to_push_tail : (to : Place) (m : ℕ) (text : List Token) (a : Expression) → PushedAt to m text a
     → PushTail m (inner m) to text a
@@ -178,10 +180,12 @@ unfolding PushedAt level_behind
 from_push_tail to zero text a h = h
 from_push_tail to (suc m) text a h = h
 
-least_push : (m : ℕ) (to : Place) → PushTail m (inner m) to (placed kind.Assign ∷ zero_text) (tree.Push to zero_tree)
+least_push : (m : ℕ) (to : Place) → PushTail m (inner m) to (placed (kind.Word word.Assign) ∷ zero_text)
+    (tree.Push to zero_tree)
 unfolding PushedAt
-least_push m to = to_push_tail to m (placed kind.Assign ∷ zero_text) (tree.Push to zero_tree)
-    (marked terminal.Assign (placed kind.Assign) (Made (IsExpression (level_behind m)) (tree.Push to)) zero_text
+least_push m to = to_push_tail to m (placed (kind.Word word.Assign) ∷ zero_text) (tree.Push to zero_tree)
+    (marked (Of word.Assign) (placed (kind.Word word.Assign)) (Made (IsExpression (level_behind m)) (tree.Push to))
+    zero_text
     (tree.Push to zero_tree) refl (give (IsExpression (level_behind m)) (tree.Push to) zero_text zero_tree
     (least_expression (level_behind m))))
 
@@ -206,7 +210,7 @@ module _ (n : ℕ) (read : Part → Reader Expression) (reads : Reads (suc n) re
   pushed_answers to ts =
       equal_answers ◌≤◌ level_self (PushedAt to) (λ m. PushTail m (inner m) to) (stop_at 12) (suc n) ts
       (to_push_tail to) (from_push_tail to) (pushed (suc n) read to ts)
-      (mark_then ◌≤◌ level_self terminal.Assign (λ _. MadeAt (λ m. IsExpression (level_behind m)) (tree.Push to))
+      (mark_then ◌≤◌ level_self (Of word.Assign) (λ _. MadeAt (λ m. IsExpression (level_behind m)) (tree.Push to))
       (stop_at 12) (suc n) (λ _. made (read part.Whole) (tree.Push to))
       (λ m above _. (
         zero_text,
@@ -220,21 +224,21 @@ module _ (n : ℕ) (read : Part → Reader Expression) (reads : Reads (suc n) re
 -- ---- the readers of one level
 
 module _ (level : ℕ) (read : Part → Reader Expression) (reads : Reads level read) where
-  coalesced_answers : (left : Expression) (ts : List Token) → is terminal.Coalesce (head ts) ≡ true
+  coalesced_answers : (left : Expression) (ts : List Token) → is (Of word.Coalesce) (head ts) ≡ true
       → Answers ◌≤◌ (CoalescedAt left) (stop_at 10) level ts (made
-      (enter level >> (mark terminal.Coalesce >> read part.Coalesce)) (λ right. tree.Coalesce left right) ts)
+      (enter level >> (mark (Of word.Coalesce) >> read part.Coalesce)) (λ right. tree.Coalesce left right) ts)
   coalesced_answers left ts here =
       made_answers ◌≤◌ level_self (NestedAt CoalesceTailAt) (λ right. tree.Coalesce left right) (stop_at 10)
-      (stop_at 10) level ts (λ a s e. e) ((enter level >> (mark terminal.Coalesce >> read part.Coalesce)) ts)
-      (nested_answers (is terminal.Coalesce) CoalesceTailAt (stop_at 10) level ts
-      (mark terminal.Coalesce >> read part.Coalesce) refl here
+      (stop_at 10) level ts (λ a s e. e) ((enter level >> (mark (Of word.Coalesce) >> read part.Coalesce)) ts)
+      (nested_answers (is (Of word.Coalesce)) CoalesceTailAt (stop_at 10) level ts
+      (mark (Of word.Coalesce) >> read part.Coalesce) refl here
       (λ x e. (
         zero_text,
         zero_tree,
-        marked terminal.Coalesce x (Under part.Coalesce 2) zero_text zero_tree e
+        marked (Of word.Coalesce) x (Under part.Coalesce 2) zero_text zero_tree e
             (least_coalesce 1 (inner 1)),
       ))
-      (λ some. mark_then ◌≤◌ level_self terminal.Coalesce (λ _. Under part.Coalesce) (stop_at 10) level
+      (λ some. mark_then ◌≤◌ level_self (Of word.Coalesce) (λ _. Under part.Coalesce) (stop_at 10) level
       (λ _. read part.Coalesce) (λ m above _. some_coalesce_under level some m above)
       (λ _ us. inner_answers level read reads some part.Coalesce us refl) ts))
 
@@ -242,10 +246,10 @@ module _ (level : ℕ) (read : Part → Reader Expression) (reads : Reads level 
       → Answers ◌≤◌ (CoalesceRestAt left) (stop_at 10) level ts (coalesce_rest level read left ts)
   unfolding coalesce_rest
   coalesce_rest_answers left ts =
-      either_answers ◌≤◌ level_self (CoalescedAt left) (GivesAt left) (is terminal.Coalesce) (stop_at 10) level ts
-      (coalesced_starts left) (gives_apart left (stop_at 10) (is terminal.Coalesce)
-      (excluded (looser 10) (is terminal.Coalesce) refl))
-      (made (enter level >> (mark terminal.Coalesce >> read part.Coalesce)) (λ right. tree.Coalesce left right) ts)
+      either_answers ◌≤◌ level_self (CoalescedAt left) (GivesAt left) (is (Of word.Coalesce)) (stop_at 10) level ts
+      (coalesced_starts left) (gives_apart left (stop_at 10) (is (Of word.Coalesce))
+      (excluded (looser 10) (is (Of word.Coalesce)) refl))
+      (made (enter level >> (mark (Of word.Coalesce) >> read part.Coalesce)) (λ right. tree.Coalesce left right) ts)
       (Ok (left, ts)) (coalesced_answers left ts) (λ _. gives_answers ◌≤◌ level_self left (stop_at 10) level ts)
 
   coalesce_rest_follows : Follows (stop_at 9) CoalesceRestAt (stop_at 10)
@@ -266,55 +270,55 @@ module _ (level : ℕ) (read : Part → Reader Expression) (reads : Reads level 
   -- ---- conditionals
 
   abbrev middle_stop : Option Expression → Terminal → Bool
-  middle_stop a s = is terminal.Colon s
+  middle_stop a s = is (Of word.Colon) s
 
   middle_answers : (ts : List Token) → Answers ◌≤◌ MiddleAt middle_stop level ts (middle level read ts)
   unfolding middle
   middle_answers ts =
       perhaps_answers ◌≤◌ level_self (NestedAt (Under part.Whole)) begins_expression (stop_at 12) middle_stop level ts
       (nests_starts (λ m. m) (Under part.Whole) begins_expression whole_under_starts)
-      (λ a s e. mark_passes (looser 12) terminal.Colon refl s e)
-      (λ s e. mark_fails begins_expression terminal.Colon refl s e)
+      (λ a s e. mark_passes (looser 12) (Of word.Colon) refl s e)
+      (λ s e. mark_fails begins_expression (Of word.Colon) refl s e)
       ((enter level >> read part.Whole) ts)
       (λ here. nested_answers begins_expression (Under part.Whole) (stop_at 12) level ts
       (read part.Whole) refl here begins_one (λ some. inner_answers level read reads some part.Whole ts refl))
 
   otherwise_answers : (test : Expression) (between : Option Expression) (ts : List Token)
       → Answers ◌≤◌ (OtherwiseAt test between) (stop_at 12) level ts
-      ((mark terminal.Colon >> made (coalesce level read) (λ otherwise. tree.Conditional test between otherwise)) ts)
+      ((mark (Of word.Colon) >> made (coalesce level read) (λ otherwise. tree.Conditional test between otherwise)) ts)
   otherwise_answers test between ts =
       let f : Expression → Expression = λ otherwise. tree.Conditional test between otherwise in
-      mark_then ◌≤◌ level_self terminal.Colon (λ _. MadeAt CoalesceAt f) (stop_at 12) level
+      mark_then ◌≤◌ level_self (Of word.Colon) (λ _. MadeAt CoalesceAt f) (stop_at 12) level
       (λ _. made (coalesce level read) f)
       (λ m above _. (zero_text, f zero_tree, give (CoalesceAt m) f zero_text zero_tree (least_coalesce m (inner m))))
       (λ _ us. made_answers ◌≤◌ level_self CoalesceAt f (stop_at 10) (stop_at 12) level us
       (λ a s e. looser_less 10 12 (omega arith) s e) (coalesce level read us) (coalesce_answers us)) ts
 
   least_otherwise : (test : Expression) (between : Option Expression) (m : ℕ)
-      → OtherwiseAt test between m (placed kind.Colon ∷ zero_text) (tree.Conditional test between zero_tree)
+      → OtherwiseAt test between m (placed (kind.Word word.Colon) ∷ zero_text) (tree.Conditional test between zero_tree)
   least_otherwise test between m =
-      marked terminal.Colon (placed kind.Colon) (Made (CoalesceAt m)
+      marked (Of word.Colon) (placed (kind.Word word.Colon)) (Made (CoalesceAt m)
       (λ otherwise. tree.Conditional test between otherwise)) zero_text (tree.Conditional test between zero_tree) refl
       (give (CoalesceAt m) (λ otherwise. tree.Conditional test between otherwise) zero_text zero_tree
       (least_coalesce m (inner m)))
 
   otherwise_starts : (test : Expression) (between : Option Expression)
-      → StartsIn (OtherwiseAt test between) (is terminal.Colon)
+      → StartsIn (OtherwiseAt test between) (is (Of word.Colon))
   otherwise_starts test between =
-      joined_starts (MarkAt terminal.Colon) (λ _. MadeAt CoalesceAt
-      (λ otherwise. tree.Conditional test between otherwise)) (is terminal.Colon) (mark_starts terminal.Colon)
+      joined_starts (MarkAt (Of word.Colon)) (λ _. MadeAt CoalesceAt
+      (λ otherwise. tree.Conditional test between otherwise)) (is (Of word.Colon)) (mark_starts (Of word.Colon))
 
   asked_answers : (test : Expression) (ts : List Token)
       → Answers ◌≤◌ (JoinedAt MiddleAt (OtherwiseAt test)) (stop_at 12) level ts
-      ((middle level read >>= (λ between. mark terminal.Colon >> made (coalesce level read)
+      ((middle level read >>= (λ between. mark (Of word.Colon) >> made (coalesce level read)
       (λ otherwise. tree.Conditional test between otherwise))) ts)
   asked_answers test ts = joined_answers ◌≤◌ level_self MiddleAt (OtherwiseAt test) middle_stop (stop_at 12) level ts
-      (starts_follow middle_stop (OtherwiseAt test) (stop_at 12) (is terminal.Colon) (λ a s e. e)
+      (starts_follow middle_stop (OtherwiseAt test) (stop_at 12) (is (Of word.Colon)) (λ a s e. e)
       (otherwise_starts test))
-      (middle level read ts) (λ between. mark terminal.Colon >> made (coalesce level read)
+      (middle level read ts) (λ between. mark (Of word.Colon) >> made (coalesce level read)
       (λ otherwise. tree.Conditional test between otherwise))
       (λ m above between. (
-        placed kind.Colon
+        placed (kind.Word word.Colon)
             ∷ zero_text,
         tree.Conditional test between zero_tree,
         least_otherwise test between m,
@@ -325,16 +329,17 @@ module _ (level : ℕ) (read : Part → Reader Expression) (reads : Reads level 
       → Answers ◌≤◌ (BranchesAt test) (stop_at 12) level ts (branches level read test ts)
   unfolding branches
   branches_answers test ts =
-      mark_then ◌≤◌ level_self terminal.Question (λ _. JoinedAt MiddleAt (OtherwiseAt test)) (stop_at 12) level
+      mark_then ◌≤◌ level_self (Of word.Question) (λ _. JoinedAt MiddleAt (OtherwiseAt test)) (stop_at 12) level
       (λ _. middle level read
-      >>= (λ between. mark terminal.Colon >> made (coalesce level read)
+      >>= (λ between. mark (Of word.Colon) >> made (coalesce level read)
       (λ otherwise. tree.Conditional test between otherwise)))
       (λ m above _. (
-        placed kind.Colon
+        placed (kind.Word word.Colon)
             ∷ zero_text,
         tree.Conditional test None zero_tree,
         behind (MiddleAt m) (λ between. OtherwiseAt test between m)
-            [] (placed kind.Colon ∷ zero_text) None (tree.Conditional test None zero_tree) (inr (gives_it None))
+            [] (placed (kind.Word word.Colon) ∷ zero_text) None (tree.Conditional test None zero_tree)
+            (inr (gives_it None))
             (least_otherwise test None m),
       ))
       (λ _. asked_answers test) ts
@@ -343,9 +348,9 @@ module _ (level : ℕ) (read : Part → Reader Expression) (reads : Reads level 
       → Answers ◌≤◌ (ConditionalRestAt test) (stop_at 12) level ts (conditional_rest level read test ts)
   unfolding conditional_rest
   conditional_rest_answers test ts =
-      either_answers ◌≤◌ level_self (BranchesAt test) (GivesAt test) (is terminal.Question) (stop_at 12) level ts
-      (branches_starts test) (gives_apart test (stop_at 12) (is terminal.Question)
-      (excluded (looser 12) (is terminal.Question) refl))
+      either_answers ◌≤◌ level_self (BranchesAt test) (GivesAt test) (is (Of word.Question)) (stop_at 12) level ts
+      (branches_starts test) (gives_apart test (stop_at 12) (is (Of word.Question))
+      (excluded (looser 12) (is (Of word.Question)) refl))
       (branches level read test ts) (Ok (test, ts)) (λ _. branches_answers test ts)
       (λ _. gives_answers ◌≤◌ level_self test (stop_at 12) level ts)
 
@@ -446,7 +451,12 @@ module _ (level : ℕ) (read : Part → Reader Expression) (reads : Reads level 
       (λ _. going_answers level read reads (value_of p) r)
 
   rest_goes_on : (m : ℕ) → level ≤ m → (v : Operand) → (ts : List Token) × (a : Expression) × RestAt v m ts a
-  rest_goes_on m above (opened.Push p) = (placed kind.Assign ∷ zero_text, tree.Push p zero_tree, least_push m p)
+  rest_goes_on m above (opened.Push p) = (
+    placed (kind.Word word.Assign) ∷ zero_text,
+    tree.Push p zero_tree,
+    least_push
+        m p,
+  )
   rest_goes_on m above (opened.Other first) = ([], first, least_going m first)
   rest_goes_on m above (opened.Place p) = ([], value_of p, inr (least_going m (value_of p)))
 

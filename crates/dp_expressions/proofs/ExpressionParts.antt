@@ -4,6 +4,8 @@ use Rattle.dp_lexer.specs.declared.token.Token.{Token}
 use Rattle.dp_expressions.specs.declared.operand.Operand.{Operand}
 use Rattle.dp_expressions.specs.declared.operand.Part.{Part}
 use Rattle.dp_expressions.specs.declared.operand.Part.TheVariants as part
+use Rattle.dp_token_rules.specs.declared.terminal.Terminal.TheVariants.{Of}
+use Rattle.dp_lexer.specs.declared.token.Word.TheVariants as word
 use Rattle.dp_token_rules.specs.declared.terminal.Terminal.{Terminal}
 use Rattle.dp_token_rules.specs.declared.terminal.Terminal.TheVariants as terminal
 use Rattle.dp_tree.specs.declared.tree.Expression.{Expression}
@@ -50,7 +52,7 @@ abbrev pub may_read : Part → Terminal → Bool
 may_read part.Whole s = true
 may_read part.Coalesce s = true
 may_read part.Alone s = true
-may_read part.Index s = is terminal.OpenBracket s
+may_read part.Index s = is (Of word.OpenBracket) s
 
 -- what the reader of the level below answers, if there is one
 abbrev pub Reads : ℕ → (Part → Reader Expression) → Type 0
@@ -185,13 +187,13 @@ begins_inclusion s = is_some (inclusion_in s)
 
 -- in the order of the reader's tests
 abbrev pub begins_behind_array : Terminal → Bool
-begins_behind_array s = is terminal.Array s || is terminal.Name s
+begins_behind_array s = is (Of word.Array) s || is terminal.Name s
 
 abbrev pub begins_behind_bracket : Terminal → Bool
-begins_behind_bracket s = is terminal.OpenBracket s || begins_behind_array s
+begins_behind_bracket s = is (Of word.OpenBracket) s || begins_behind_array s
 
 abbrev pub begins_behind_group : Terminal → Bool
-begins_behind_group s = is terminal.OpenParenthesis s || begins_behind_bracket s
+begins_behind_group s = is (Of word.OpenParenthesis) s || begins_behind_bracket s
 
 abbrev pub begins_behind_constant : Terminal → Bool
 begins_behind_constant s = begins_constant s || begins_behind_group s
@@ -200,7 +202,7 @@ abbrev pub begins_primary : Terminal → Bool
 begins_primary s = is terminal.Text s || begins_behind_constant s
 
 abbrev pub begins_behind_isset : Terminal → Bool
-begins_behind_isset s = is terminal.Isset s || begins_primary s
+begins_behind_isset s = is (Of word.Isset) s || begins_primary s
 
 abbrev pub begins_behind_number : Terminal → Bool
 begins_behind_number s = is terminal.Number s || begins_behind_isset s
@@ -211,13 +213,13 @@ begins_behind_step s = begins_step s || begins_behind_number s
 abbrev pub begins_other : Terminal → Bool
 begins_other s = begins_prefix s || begins_behind_step s
 
-pub index_starts : StartsIn IndexAt (is terminal.OpenBracket)
+pub index_starts : StartsIn IndexAt (is (Of word.OpenBracket))
 index_starts m text a h =
-    joined_starts (MarkAt terminal.OpenBracket) (λ _. JoinedAt (Under part.Whole)
-    (λ at. JoinedAt (MarkAt terminal.CloseBracket) (λ _. GivesAt at))) (is terminal.OpenBracket)
-    (mark_starts terminal.OpenBracket) m text a h.spelled
+    joined_starts (MarkAt (Of word.OpenBracket)) (λ _. JoinedAt (Under part.Whole)
+    (λ at. JoinedAt (MarkAt (Of word.CloseBracket)) (λ _. GivesAt at))) (is (Of word.OpenBracket))
+    (mark_starts (Of word.OpenBracket)) m text a h.spelled
 
-pub index_under_starts : StartsIn (Under part.Index) (is terminal.OpenBracket)
+pub index_under_starts : StartsIn (Under part.Index) (is (Of word.OpenBracket))
 index_under_starts zero text a h = absurd h
 index_under_starts (suc k) text a h = index_starts k text a h
 
@@ -231,27 +233,27 @@ place_under_starts =
     joined_starts (OneAt (by_kind variable_in)) (λ name. MadeAt (ManyAt (Under part.Index)) (place name))
     (is terminal.Variable) variable_starts
 
-pub group_starts : StartsIn GroupAt (is terminal.OpenParenthesis)
+pub group_starts : StartsIn GroupAt (is (Of word.OpenParenthesis))
 group_starts m text a h =
-    joined_starts (MarkAt terminal.OpenParenthesis) (λ _. JoinedAt (Under part.Whole)
-    (λ within. JoinedAt (MarkAt terminal.CloseParenthesis) (λ _. GivesAt within))) (is terminal.OpenParenthesis)
-    (mark_starts terminal.OpenParenthesis) m text a h.spelled
+    joined_starts (MarkAt (Of word.OpenParenthesis)) (λ _. JoinedAt (Under part.Whole)
+    (λ within. JoinedAt (MarkAt (Of word.CloseParenthesis)) (λ _. GivesAt within))) (is (Of word.OpenParenthesis))
+    (mark_starts (Of word.OpenParenthesis)) m text a h.spelled
 
-pub literal_starts : StartsIn LiteralAt (is terminal.OpenBracket)
+pub literal_starts : StartsIn LiteralAt (is (Of word.OpenBracket))
 literal_starts m text a h =
-    joined_starts (MarkAt terminal.OpenBracket) (λ _ m. Made (AnyItems (λ _. ItemAt m) terminal.CloseBracket)
-    tree.Array) (is terminal.OpenBracket) (mark_starts terminal.OpenBracket) m text a h.spelled
+    joined_starts (MarkAt (Of word.OpenBracket)) (λ _ m. Made (AnyItems (λ _. ItemAt m) (Of word.CloseBracket))
+    tree.Array) (is (Of word.OpenBracket)) (mark_starts (Of word.OpenBracket)) m text a h.spelled
 
-pub array_call_starts : StartsIn ArrayCallAt (is terminal.Array)
+pub array_call_starts : StartsIn ArrayCallAt (is (Of word.Array))
 array_call_starts m text a h =
-    joined_starts (MarkAt terminal.Array) (λ _ m. Joined (Mark terminal.OpenParenthesis)
-    (λ _. Made (AnyItems (λ _. ItemAt m) terminal.CloseParenthesis) tree.Array)) (is terminal.Array)
-    (mark_starts terminal.Array) m text a h.spelled
+    joined_starts (MarkAt (Of word.Array)) (λ _ m. Joined (Mark (Of word.OpenParenthesis))
+    (λ _. Made (AnyItems (λ _. ItemAt m) (Of word.CloseParenthesis)) tree.Array)) (is (Of word.Array))
+    (mark_starts (Of word.Array)) m text a h.spelled
 
 pub call_starts : StartsIn CallAt (is terminal.Name)
 call_starts m text a h =
-    joined_starts (OneAt (by_kind name_in)) (λ name m. Joined (Mark terminal.OpenParenthesis)
-    (λ _. Made (AnyItems (λ _. Under part.Whole m) terminal.CloseParenthesis) (tree.Call name)))
+    joined_starts (OneAt (by_kind name_in)) (λ name m. Joined (Mark (Of word.OpenParenthesis))
+    (λ _. Made (AnyItems (λ _. Under part.Whole m) (Of word.CloseParenthesis)) (tree.Call name)))
     (is terminal.Name) name_starts m text a h.spelled
 
 pub named_starts : StartsIn NamedAt (is terminal.Name)
@@ -259,11 +261,11 @@ named_starts =
     either_starts CallAt ConstantNameAt (is terminal.Name) call_starts
     (made_starts (OneAt (by_kind name_in)) tree.Constant (is terminal.Name) name_starts)
 
-pub isset_starts : StartsIn IssetAt (is terminal.Isset)
+pub isset_starts : StartsIn IssetAt (is (Of word.Isset))
 isset_starts m text a h =
-    joined_starts (MarkAt terminal.Isset) (λ _ m. Joined (Mark terminal.OpenParenthesis)
-    (λ _. Made (SomeItems (λ _. PlaceUnder m) terminal.CloseParenthesis) tree.Isset)) (is terminal.Isset)
-    (mark_starts terminal.Isset) m text a h.spelled
+    joined_starts (MarkAt (Of word.Isset)) (λ _ m. Joined (Mark (Of word.OpenParenthesis))
+    (λ _. Made (SomeItems (λ _. PlaceUnder m) (Of word.CloseParenthesis)) tree.Isset)) (is (Of word.Isset))
+    (mark_starts (Of word.Isset)) m text a h.spelled
 
 pub prefixed_starts : StartsIn PrefixedAt begins_prefix
 prefixed_starts m text a h =
@@ -283,18 +285,18 @@ text_rule_starts = made_starts (OneAt (by_kind text_in)) tree.Text (is terminal.
 
 pub behind_array_starts : StartsIn (EitherAt ArrayCallAt NamedAt) begins_behind_array
 behind_array_starts =
-    or_starts ArrayCallAt NamedAt (is terminal.Array) (is terminal.Name) array_call_starts named_starts
+    or_starts ArrayCallAt NamedAt (is (Of word.Array)) (is terminal.Name) array_call_starts named_starts
 
 pub behind_bracket_starts : StartsIn (EitherAt LiteralAt (EitherAt ArrayCallAt NamedAt)) begins_behind_bracket
 behind_bracket_starts =
-    or_starts LiteralAt (EitherAt ArrayCallAt NamedAt) (is terminal.OpenBracket) begins_behind_array literal_starts
+    or_starts LiteralAt (EitherAt ArrayCallAt NamedAt) (is (Of word.OpenBracket)) begins_behind_array literal_starts
     behind_array_starts
 
 pub behind_group_starts : StartsIn (EitherAt GroupAt (EitherAt LiteralAt (EitherAt ArrayCallAt NamedAt)))
     begins_behind_group
 behind_group_starts =
     or_starts GroupAt (EitherAt LiteralAt (EitherAt ArrayCallAt NamedAt))
-    (is terminal.OpenParenthesis) begins_behind_bracket group_starts behind_bracket_starts
+    (is (Of word.OpenParenthesis)) begins_behind_bracket group_starts behind_bracket_starts
 
 pub behind_constant_starts : StartsIn (EitherAt ConstantAt (EitherAt GroupAt
     (EitherAt LiteralAt (EitherAt ArrayCallAt NamedAt)))) begins_behind_constant
@@ -313,7 +315,7 @@ primary_indexed_starts =
 
 pub behind_isset_starts : StartsIn (EitherAt IssetAt PrimaryIndexedAt) begins_behind_isset
 behind_isset_starts =
-    or_starts IssetAt PrimaryIndexedAt (is terminal.Isset) begins_primary isset_starts primary_indexed_starts
+    or_starts IssetAt PrimaryIndexedAt (is (Of word.Isset)) begins_primary isset_starts primary_indexed_starts
 
 pub behind_number_starts : StartsIn (EitherAt NumberAt (EitherAt IssetAt PrimaryIndexedAt)) begins_behind_number
 behind_number_starts =

@@ -4,11 +4,12 @@ use Rattle.dp_lexer.specs.declared.token.Token.{Token}
 use Rattle.dp_expressions.specs.declared.operand.Operand.{Operand}
 use Rattle.dp_expressions.specs.declared.operand.Operand.TheVariants as opened
 use Rattle.dp_expressions.specs.declared.rank.Rank.{Rank}
-use Rattle.dp_token_rules.specs.declared.terminal.Terminal.TheVariants as terminal
 use Rattle.dp_tree.specs.declared.tree.Expression.{Expression}
 use Rattle.dp_tree.specs.declared.tree.Expression.TheVariants as tree
 use Rattle.dp_tree.specs.declared.tree.Place.{Place}
 use Rattle.dp_tree.specs.declared.tree.Order.TheVariants.{ValueFirst}
+use Rattle.dp_token_rules.specs.declared.terminal.Terminal.TheVariants.{Of}
+use Rattle.dp_lexer.specs.declared.token.Word.TheVariants as word
 use Rattle.dp_token_rules.specs.Rules.{Rule, Joined, ◌or◌, Gives, Made, Mark, Nests, Chain, Closed, Many}
 use Rattle.dp_expressions.specs.Grammar.{Inner, step_in, assignment_in, place, indexed, value_of, chained, assigned, Links, Ladder, PlaceOf, Index, PlaceRule, Isset, Primary, Prefixed, SteppedFirst, SteppedLast, OperandRule, CoalesceRest, CoalesceRule, ConditionalRest, ConditionalRule, IncludeRule, PushRule, ExpressionRule, IsExpression, ranks}
 use Rattle.dp_expressions.specs.inner.Readers.{tree_of}
@@ -218,7 +219,7 @@ StepLast p = Made (Sort step_in) (λ by. opened.Other (tree.Step by ValueFirst p
 
 -- `[]`, where a level is left
 abbrev pub EmptyIndex : ℕ → Rule ℕ
-EmptyIndex level = Nests level (Joined (Mark terminal.OpenBracket) (λ _. Mark terminal.CloseBracket))
+EmptyIndex level = Nests level (Joined (Mark (Of word.OpenBracket)) (λ _. Mark (Of word.CloseBracket)))
 
 module _ (level : ℕ) (i : Inner) where
   abbrev pub PrimaryIndexed : Rule Expression
@@ -329,8 +330,8 @@ module _ (level : ℕ) (i : Inner) where
 -- Behind a place and `[]`, which is spelled only where a level is left. At level 0, where it is not, this is a rule
 -- that the rules of the levels above spell too.
 abbrev pub PushTail : ℕ → Inner → Place → Rule Expression
-PushTail zero i to = Joined (Mark terminal.Assign) (λ _. Made (IsExpression 0) (tree.Push to))
-PushTail (suc level) i to = Joined (Mark terminal.Assign) (λ _. Made i.expression (tree.Push to))
+PushTail zero i to = Joined (Mark (Of word.Assign)) (λ _. Made (IsExpression 0) (tree.Push to))
+PushTail (suc level) i to = Joined (Mark (Of word.Assign)) (λ _. Made i.expression (tree.Push to))
 
 module _ (level : ℕ) (i : Inner) where
   -- an expression from its first operand
@@ -444,7 +445,7 @@ module _ (level : ℕ) (i : Inner) where
       }))))
 
   pushes : (front back text : List Token) (p : Place) (e : Expression) → text ≡ front ++ back → PushedPlace front p
-      → Made (Nests level (Joined (Mark terminal.Assign) (λ _. i.expression))) (λ from. tree.Push p from) back e
+      → Made (Nests level (Joined (Mark (Of word.Assign)) (λ _. i.expression))) (λ from. tree.Push p from) back e
       → ExpressionRule level i text e
   pushes front back text p e split j rest =
       let g = given (EmptyIndex level) (λ _. j.value) j.back p j.other in
@@ -462,7 +463,7 @@ module _ (level : ℕ) (i : Inner) where
               split = refl;
               one = g.1;
               other = subst
-                  (λ q. Made (Nests level (Joined (Mark terminal.Assign) (λ _. i.expression)))
+                  (λ q. Made (Nests level (Joined (Mark (Of word.Assign)) (λ _. i.expression)))
                   (λ from. tree.Push q from) back e) g.2 rest;
             };
       }))
@@ -476,21 +477,21 @@ module _ (i : Inner) where
       → PushedPlace level i front p → PushTail level i p back e → ExpressionRule level i text e
   push_tail zero front back text p e split one rest = absurd (no_push 0 i front p refl one)
   push_tail (suc level) front back text p e split one rest =
-      let h = made_behind (Mark terminal.Assign) (λ _. i.expression) (tree.Push p) back e rest in
-      let g = given (Joined (Mark terminal.Assign) (λ _. i.expression)) (tree.Push p) back e h in
+      let h = made_behind (Mark (Of word.Assign)) (λ _. i.expression) (tree.Push p) back e rest in
+      let g = given (Joined (Mark (Of word.Assign)) (λ _. i.expression)) (tree.Push p) back e h in
       pushes (suc level) i front back text p e split one
-      (subst (λ x. Made (Nests (suc level) (Joined (Mark terminal.Assign) (λ _. i.expression)))
+      (subst (λ x. Made (Nests (suc level) (Joined (Mark (Of word.Assign)) (λ _. i.expression)))
       (λ from. tree.Push p from) back x) (sym g.2)
-      (give (Nests (suc level) (Joined (Mark terminal.Assign) (λ _. i.expression))) (tree.Push p) back g.0
+      (give (Nests (suc level) (Joined (Mark (Of word.Assign)) (λ _. i.expression))) (tree.Push p) back g.0
       (record { some = omega arith; spelled = g.1 })))
 
   tail_of_push : (level : ℕ) (front back : List Token) (p : Place) (e : Expression) → PushedPlace level i front p
-      → Made (Nests level (Joined (Mark terminal.Assign) (λ _. i.expression))) (λ from. tree.Push p from) back e
+      → Made (Nests level (Joined (Mark (Of word.Assign)) (λ _. i.expression))) (λ from. tree.Push p from) back e
       → PushTail level i p back e
   tail_of_push zero front back p e one rest = absurd (no_push 0 i front p refl one)
   tail_of_push (suc level) front back p e one rest =
-      behind_made (Mark terminal.Assign) (λ _. i.expression) (tree.Push p) back e
-      (made_inside (suc level) (Joined (Mark terminal.Assign) (λ _. i.expression))
+      behind_made (Mark (Of word.Assign)) (λ _. i.expression) (tree.Push p) back e
+      (made_inside (suc level) (Joined (Mark (Of word.Assign)) (λ _. i.expression))
       (tree.Push p) back e rest).spelled
 
 module _ (level : ℕ) (i : Inner) where

@@ -3,43 +3,44 @@ use Rattle.std.specs.List.{list_all}
 use Rattle.std.proofs.Common.{◌≡◌, ℕ, ◌≤◌, ◌<◌, Bool, true, not, ◌||◌, is_some, nat_lt, nat_eq, refl, ltb-true, lt-ltb, eqb-true, arith}
 use Rattle.dp_expressions.specs.declared.rank.Rank.{Rank}
 use Rattle.dp_expressions.specs.declared.rank.Rank.TheVariants as rank
+use Rattle.dp_token_rules.specs.declared.terminal.Terminal.TheVariants.{Of}
+use Rattle.dp_lexer.specs.declared.token.Word.TheVariants as word
 use Rattle.dp_token_rules.specs.declared.terminal.Terminal.{Terminal}
-use Rattle.dp_token_rules.specs.declared.terminal.Terminal.TheVariants as terminal
 use Rattle.dp_expressions.specs.Grammar.{operator_in}
 use Rattle.dp_token_rules.proofs.Terminals.{all_terminals, implied}
 
 -- How loosely such a token goes on with an expression: a parenthesis with a name alone. The last number is that of
 -- tokens that go on with none.
 abbrev pub height : Terminal → ℕ
-height terminal.OpenParenthesis = 0
-height terminal.OpenBracket = 1
-height terminal.Increment = 2
-height terminal.Decrement = 2
-height terminal.Star = 3
-height terminal.Percent = 3
-height terminal.Plus = 4
-height terminal.Minus = 4
-height terminal.Dot = 5
-height terminal.Less = 6
-height terminal.LessOrEqual = 6
-height terminal.Greater = 6
-height terminal.GreaterOrEqual = 6
-height terminal.Equal = 7
-height terminal.NotEqual = 7
-height terminal.Identical = 7
-height terminal.NotIdentical = 7
-height terminal.Spaceship = 7
-height terminal.BothOf = 8
-height terminal.EitherOf = 9
-height terminal.Coalesce = 10
-height terminal.Question = 11
-height terminal.Assign = 12
-height terminal.AddAssign = 12
-height terminal.SubtractAssign = 12
-height terminal.MultiplyAssign = 12
-height terminal.ConcatAssign = 12
-height terminal.RemainderAssign = 12
-height terminal.CoalesceAssign = 12
+height (Of word.OpenParenthesis) = 0
+height (Of word.OpenBracket) = 1
+height (Of word.Increment) = 2
+height (Of word.Decrement) = 2
+height (Of word.Star) = 3
+height (Of word.Percent) = 3
+height (Of word.Plus) = 4
+height (Of word.Minus) = 4
+height (Of word.Dot) = 5
+height (Of word.Less) = 6
+height (Of word.LessOrEqual) = 6
+height (Of word.Greater) = 6
+height (Of word.GreaterOrEqual) = 6
+height (Of word.Equal) = 7
+height (Of word.NotEqual) = 7
+height (Of word.Identical) = 7
+height (Of word.NotIdentical) = 7
+height (Of word.Spaceship) = 7
+height (Of word.BothOf) = 8
+height (Of word.EitherOf) = 9
+height (Of word.Coalesce) = 10
+height (Of word.Question) = 11
+height (Of word.Assign) = 12
+height (Of word.AddAssign) = 12
+height (Of word.SubtractAssign) = 12
+height (Of word.MultiplyAssign) = 12
+height (Of word.ConcatAssign) = 12
+height (Of word.RemainderAssign) = 12
+height (Of word.CoalesceAssign) = 12
 height _ = 13
 
 abbrev pub rank_height : Rank → ℕ

@@ -5,8 +5,9 @@ use Rattle.dp_lexer.specs.declared.token.TokenKind.TheVariants as kind
 use Rattle.dp_expressions.specs.declared.rank.Rank.{Rank}
 use Rattle.dp_tree.specs.declared.tree.Expression.{Expression}
 use Rattle.dp_tree.specs.declared.tree.Expression.TheVariants as tree
-use Rattle.dp_token_rules.specs.declared.terminal.Terminal.TheVariants as terminal
 use Rattle.dp_tree.specs.declared.tree.Place.{Place}
+use Rattle.dp_token_rules.specs.declared.terminal.Terminal.TheVariants.{Of}
+use Rattle.dp_lexer.specs.declared.token.Word.TheVariants as word
 use Rattle.dp_token_rules.specs.Rules.{Rule, Joined, Gives, Closed}
 use Rattle.dp_expressions.specs.Grammar.{Inner, Ladder, PlaceOf, place, Index, OperandRule, CoalesceRule, ConditionalRule, ExpressionRule, ranks, inner, IsExpression, IsPlace}
 use Rattle.dp_token_rules.proofs.Terminals.{placed, mark_alone}
@@ -34,7 +35,7 @@ variable_place = place variable_name []
 
 -- `[0]`
 abbrev pub index_text : List Token
-index_text = placed kind.OpenBracket ∷ (zero_token ∷ (placed kind.CloseBracket ∷ []))
+index_text = placed (kind.Word word.OpenBracket) ∷ (zero_token ∷ (placed (kind.Word word.CloseBracket) ∷ []))
 
 -- a spelling behind which nothing is spelled
 pub then_nothing : {A B : Type 0} (first : Rule A) (second : A → Rule B) (text : List Token) (a : A) (b : B)
@@ -138,25 +139,25 @@ pub least_index : (level : ℕ) (i : Inner) → 0 < level → i.expression zero_
 least_index level i some h = record {
   some = some;
   spelled = record {
-    front = placed kind.OpenBracket ∷ [];
-    back = zero_token ∷ (placed kind.CloseBracket ∷ []);
+    front = placed (kind.Word word.OpenBracket) ∷ [];
+    back = zero_token ∷ (placed (kind.Word word.CloseBracket) ∷ []);
     value = 1;
     split = refl;
-    one = mark_alone terminal.OpenBracket kind.OpenBracket refl;
+    one = mark_alone (Of word.OpenBracket) (kind.Word word.OpenBracket) refl;
     other = record {
       front = zero_text;
-      back = placed kind.CloseBracket ∷ [];
+      back = placed (kind.Word word.CloseBracket) ∷ [];
       value = zero_tree;
       split = refl;
       one = h;
       other =
           record {
-            front = placed kind.CloseBracket
+            front = placed (kind.Word word.CloseBracket)
                 ∷ [];
             back = [];
             value = 1;
             split = refl;
-            one = mark_alone terminal.CloseBracket kind.CloseBracket refl;
+            one = mark_alone (Of word.CloseBracket) (kind.Word word.CloseBracket) refl;
             other
                 = gives_it zero_tree;
           };

@@ -5,6 +5,8 @@ use Rattle.dp_lexer.specs.declared.token.Token.{Token}
 use Rattle.dp_expressions.specs.declared.operand.Part.{Part}
 use Rattle.dp_expressions.specs.declared.operand.Part.TheVariants as part
 use Rattle.dp_grammar.specs.declared.refusal.Refusal.TheVariants.{Unexpected, TooDeep, Memory}
+use Rattle.dp_token_rules.specs.declared.terminal.Terminal.TheVariants.{Of}
+use Rattle.dp_lexer.specs.declared.token.Word.TheVariants as word
 use Rattle.dp_token_rules.specs.declared.terminal.Terminal.TheVariants as terminal
 use Rattle.dp_tree.specs.declared.tree.Expression.{Expression}
 use Rattle.dp_grammar.specs.Rules.{head as first}
@@ -171,9 +173,9 @@ module _ {A : Type 0} {rule : Rules ℕ A} {stop : Stop A} {level : ℕ} {may : 
 -- ---- expressions and places
 
 bracket : (text : List Token)
-    → (x : Token) × (rest : List Token) × (text ≡ x ∷ rest) × (is terminal.OpenBracket (terminal_of x.kind) ≡ true)
-    → is terminal.OpenBracket (head text) ≡ true
-bracket text s = ap (λ l. is terminal.OpenBracket (head l)) s.2 ∙ s.3
+    → (x : Token) × (rest : List Token) × (text ≡ x ∷ rest) × (is (Of word.OpenBracket) (terminal_of x.kind) ≡ true)
+    → is (Of word.OpenBracket) (head text) ≡ true
+bracket text s = ap (λ l. is (Of word.OpenBracket) (head l)) s.2 ∙ s.3
 
 pub part_reads : (p : Part) (level : ℕ) (ts : List Token) → may_read p level ts
     → IsReadBy (rule_of p) level ts (reading level p ts)
@@ -203,12 +205,12 @@ part_reads part.Alone level ts may =
     }) ts tt
 part_reads part.Index level ts may =
     reads_at {rule = At part.Index} {stop = stop_of part.Index} {level = level}
-    {may = λ us. is terminal.OpenBracket (head us) ≡ true} {p = reading level part.Index} (record {
+    {may = λ us. is (Of word.OpenBracket) (head us) ≡ true} {p = reading level part.Index} (record {
       stops = λ a. refl;
       answers = λ us ok. expression_answers part.Index level us ok;
       spelled_may = λ text a h. bracket text (index_starts level text a h);
       some = some_index level may.0;
-    }) ts (ap (is terminal.OpenBracket) may.1)
+    }) ts (ap (is (Of word.OpenBracket)) may.1)
   where
     some_index : (level : ℕ) → 0 < level → (us : List Token) × (a : Expression) × At part.Index level us a
     some_index zero some = absurd (omega arith)

@@ -9,6 +9,8 @@ use Rattle.dp_expressions.specs.declared.operand.Operand.{Operand}
 use Rattle.dp_expressions.specs.declared.operand.Operand.TheVariants as opened
 use Rattle.dp_expressions.specs.declared.operand.Part.{Part}
 use Rattle.dp_expressions.specs.declared.operand.Part.TheVariants as part
+use Rattle.dp_token_rules.specs.declared.terminal.Terminal.TheVariants.{Of}
+use Rattle.dp_lexer.specs.declared.token.Word.TheVariants as word
 use Rattle.dp_token_rules.specs.declared.terminal.Terminal.{Terminal}
 use Rattle.dp_token_rules.specs.declared.terminal.Terminal.TheVariants as terminal
 use Rattle.dp_tree.specs.declared.tree.Expression.{Expression}
@@ -51,10 +53,10 @@ EndAt name found m = PlaceEnd m (inner m) (place name found)
 -- ---- one step: an index, `[]`, or what is behind the place
 
 abbrev PushEndAt : Place → Rules ℕ Turn
-PushEndAt p = MadeAt (MarkAt terminal.CloseBracket) (λ _. Break (opened.Push p))
+PushEndAt p = MadeAt (MarkAt (Of word.CloseBracket)) (λ _. Break (opened.Push p))
 
 abbrev ExpressionEndAt : Rules ℕ Expression
-ExpressionEndAt = JoinedAt (Under part.Whole) (λ at. MadeAt (MarkAt terminal.CloseBracket) (λ _. at))
+ExpressionEndAt = JoinedAt (Under part.Whole) (λ at. MadeAt (MarkAt (Of word.CloseBracket)) (λ _. at))
 
 abbrev MoreAt : List Expression → Rules ℕ Turn
 MoreAt found = MadeAt ExpressionEndAt (λ at. Continue (one_index found at))
@@ -63,7 +65,7 @@ abbrev BehindAt : Text → List Expression → Rules ℕ Turn
 BehindAt name found = EitherAt (PushEndAt (place name found)) (MoreAt found)
 
 abbrev BracketAt : Text → List Expression → Rules ℕ Turn
-BracketAt name found = NestedAt (JoinedAt (MarkAt terminal.OpenBracket) (λ _. BehindAt name found))
+BracketAt name found = NestedAt (JoinedAt (MarkAt (Of word.OpenBracket)) (λ _. BehindAt name found))
 
 abbrev FactoredAt : Text → List Expression → Rules ℕ Turn
 FactoredAt name found = EitherAt (BracketAt name found) (MadeAt (λ _. StepLast (place name found)) Break)
@@ -81,7 +83,7 @@ module _ (name : Text) (found : List Expression) (m : ℕ) where
       go : BehindAt name found m n.spelled.back v → TurnAt name found m text v
       go (inl h) =
           let j = n.spelled in
-          let g = given (Mark terminal.CloseBracket) (λ _. Break (opened.Push p)) j.back v h in
+          let g = given (Mark (Of word.CloseBracket)) (λ _. Break (opened.Push p)) j.back v h in
           let empty : EmptyIndex m text g.0 = record {
             some = n.some;
             spelled = record
@@ -117,7 +119,7 @@ module _ (name : Text) (found : List Expression) (m : ℕ) where
           value = j.value;
           split = j.split;
           one = j.one;
-          other = inl (give (Mark terminal.CloseBracket) (λ _. Break (opened.Push p)) j.back n j.other);
+          other = inl (give (Mark (Of word.CloseBracket)) (λ _. Break (opened.Push p)) j.back n j.other);
         };
       })
 
@@ -160,89 +162,91 @@ module _ (level : ℕ) (read : Part → Reader Expression) (reads : Reads level 
   more_starts : (found : List Expression) → StartsIn (MoreAt found) begins_expression
   more_starts found =
       made_starts ExpressionEndAt (λ at. Continue (one_index found at)) begins_expression
-      (joined_starts (Under part.Whole) (λ at. MadeAt (MarkAt terminal.CloseBracket) (λ _. at)) begins_expression
+      (joined_starts (Under part.Whole) (λ at. MadeAt (MarkAt (Of word.CloseBracket)) (λ _. at)) begins_expression
       whole_under_starts)
 
-  push_end_starts : (q : Place) → StartsIn (PushEndAt q) (is terminal.CloseBracket)
+  push_end_starts : (q : Place) → StartsIn (PushEndAt q) (is (Of word.CloseBracket))
   push_end_starts q =
-      made_starts (MarkAt terminal.CloseBracket) (λ _. Break (opened.Push q)) (is terminal.CloseBracket)
-      (mark_starts terminal.CloseBracket)
+      made_starts (MarkAt (Of word.CloseBracket)) (λ _. Break (opened.Push q)) (is (Of word.CloseBracket))
+      (mark_starts (Of word.CloseBracket))
 
   expression_end_answers : 0 < level → (ts : List Token)
       → Answers ◌≤◌ ExpressionEndAt Anything level ts ((read part.Whole
-      >>= (λ at. mark terminal.CloseBracket >> gives at)) ts)
+      >>= (λ at. mark (Of word.CloseBracket) >> gives at)) ts)
   expression_end_answers some =
-      then_mark ◌≤◌ level_self (Under part.Whole) terminal.CloseBracket (λ a _. a) (stop_at 12) Anything level
-      (read part.Whole) (λ a. refl) (placed kind.CloseBracket) refl
+      then_mark ◌≤◌ level_self (Under part.Whole) (Of word.CloseBracket) (λ a _. a) (stop_at 12) Anything level
+      (read part.Whole) (λ a. refl) (placed (kind.Word word.CloseBracket)) refl
       (λ us. inner_answers level read reads some part.Whole us refl)
 
   abbrev behind_reader : Text → List Expression → Reader Turn
   behind_reader name found ts =
-      if is terminal.CloseBracket (head ts)
-      then made (mark terminal.CloseBracket) (λ _. Break (opened.Push (place name found))) ts
-      else made (read part.Whole >>= (λ at. mark terminal.CloseBracket >> gives at))
+      if is (Of word.CloseBracket) (head ts)
+      then made (mark (Of word.CloseBracket)) (λ _. Break (opened.Push (place name found))) ts
+      else made (read part.Whole >>= (λ at. mark (Of word.CloseBracket) >> gives at))
       (λ at. Continue (one_index found at)) ts
 
   behind_answers : 0 < level → (name : Text) (found : List Expression) (ts : List Token)
       → Answers ◌≤◌ (BehindAt name found) turn_stop level ts (behind_reader name found ts)
   behind_answers some name found ts =
       choice_answers (PushEndAt (place name found)) (MoreAt found)
-      (is terminal.CloseBracket) begins_expression turn_stop level ts refl (push_end_starts (place name found))
+      (is (Of word.CloseBracket)) begins_expression turn_stop level ts refl (push_end_starts (place name found))
       (more_starts found)
-      (made (mark terminal.CloseBracket) (λ _. Break (opened.Push (place name found))) ts)
-      (made (read part.Whole >>= (λ at. mark terminal.CloseBracket >> gives at))
+      (made (mark (Of word.CloseBracket)) (λ _. Break (opened.Push (place name found))) ts)
+      (made (read part.Whole >>= (λ at. mark (Of word.CloseBracket) >> gives at))
       (λ at. Continue (one_index found at)) ts)
-      (λ _. made_answers ◌≤◌ level_self (MarkAt terminal.CloseBracket)
+      (λ _. made_answers ◌≤◌ level_self (MarkAt (Of word.CloseBracket))
       (λ _. Break (opened.Push (place name found))) Anything turn_stop level ts (λ a s e. refl)
-      (mark terminal.CloseBracket ts) (mark_answers ◌≤◌ level_self terminal.CloseBracket Anything level ts))
+      (mark (Of word.CloseBracket) ts) (mark_answers ◌≤◌ level_self (Of word.CloseBracket) Anything level ts))
       (λ _. made_answers ◌≤◌ level_self ExpressionEndAt (λ at. Continue (one_index found at)) Anything turn_stop level
-      ts (λ a s e. refl) ((read part.Whole >>= (λ at. mark terminal.CloseBracket >> gives at)) ts)
+      ts (λ a s e. refl) ((read part.Whole >>= (λ at. mark (Of word.CloseBracket) >> gives at)) ts)
       (expression_end_answers some ts))
 
   some_behind : (name : Text) (found : List Expression) (m : ℕ)
-      → BehindAt name found m (placed kind.CloseBracket ∷ []) (Break (opened.Push (place name found)))
+      → BehindAt name found m (placed (kind.Word word.CloseBracket) ∷ []) (Break (opened.Push (place name found)))
   some_behind name found m =
-      inl (give (Mark terminal.CloseBracket) (λ _. Break (opened.Push (place name found)))
-      (placed kind.CloseBracket ∷ []) 1 (mark_of terminal.CloseBracket (placed kind.CloseBracket) refl))
+      inl (give (Mark (Of word.CloseBracket)) (λ _. Break (opened.Push (place name found)))
+      (placed (kind.Word word.CloseBracket) ∷ []) 1 (mark_of (Of word.CloseBracket)
+      (placed (kind.Word word.CloseBracket)) refl))
 
   index_or_push_answers : (name : Text) (found : List Expression) (ts : List Token)
-      → is terminal.OpenBracket (head ts) ≡ true
+      → is (Of word.OpenBracket) (head ts) ≡ true
       → Answers ◌≤◌ (BracketAt name found) turn_stop level ts (index_or_push level read name found ts)
   unfolding index_or_push
   index_or_push_answers name found ts here =
-      nested_answers (is terminal.OpenBracket) (JoinedAt (MarkAt terminal.OpenBracket) (λ _. BehindAt name found))
-      turn_stop level ts (mark terminal.OpenBracket >> behind_reader name found) refl here
+      nested_answers (is (Of word.OpenBracket)) (JoinedAt (MarkAt (Of word.OpenBracket)) (λ _. BehindAt name found))
+      turn_stop level ts (mark (Of word.OpenBracket) >> behind_reader name found) refl here
       (λ x e. (
-        placed kind.CloseBracket
+        placed (kind.Word word.CloseBracket)
             ∷ [],
         Break (opened.Push (place name found)),
-        marked terminal.OpenBracket x (BehindAt name found 2)
-            (placed kind.CloseBracket ∷ []) (Break (opened.Push (place name found))) e (some_behind name found 2),
+        marked (Of word.OpenBracket) x (BehindAt name found 2)
+            (placed (kind.Word word.CloseBracket) ∷ []) (Break (opened.Push (place name found))) e
+            (some_behind name found 2),
       ))
-      (λ some. mark_then ◌≤◌ level_self terminal.OpenBracket (λ _. BehindAt name found) turn_stop level
+      (λ some. mark_then ◌≤◌ level_self (Of word.OpenBracket) (λ _. BehindAt name found) turn_stop level
       (λ _. behind_reader name found) (λ m above _. (
-        placed kind.CloseBracket
+        placed (kind.Word word.CloseBracket)
             ∷ [],
         Break (opened.Push (place name found)),
         some_behind name found m,
       ))
       (λ _. behind_answers some name found) ts)
 
-  bracket_starts : (name : Text) (found : List Expression) → StartsIn (BracketAt name found) (is terminal.OpenBracket)
+  bracket_starts : (name : Text) (found : List Expression) → StartsIn (BracketAt name found) (is (Of word.OpenBracket))
   bracket_starts name found =
-      nests_starts (λ m. m) (JoinedAt (MarkAt terminal.OpenBracket) (λ _. BehindAt name found))
-      (is terminal.OpenBracket) (joined_starts (MarkAt terminal.OpenBracket) (λ _. BehindAt name found)
-      (is terminal.OpenBracket) (mark_starts terminal.OpenBracket))
+      nests_starts (λ m. m) (JoinedAt (MarkAt (Of word.OpenBracket)) (λ _. BehindAt name found))
+      (is (Of word.OpenBracket)) (joined_starts (MarkAt (Of word.OpenBracket)) (λ _. BehindAt name found)
+      (is (Of word.OpenBracket)) (mark_starts (Of word.OpenBracket)))
 
-  step_last_apart : (q : Place) → Apart {L = ℕ} (λ _. StepLast q) operand_stop (is terminal.OpenBracket)
+  step_last_apart : (q : Place) → Apart {L = ℕ} (λ _. StepLast q) operand_stop (is (Of word.OpenBracket))
   step_last_apart q =
       either_apart (MadeAt (OneAt (by_terminal step_in)) (stepped q)) (GivesAt (opened.Place q)) operand_stop
-      (is terminal.OpenBracket)
+      (is (Of word.OpenBracket))
       (starts_apart (MadeAt (OneAt (by_terminal step_in)) (stepped q)) operand_stop
-      (is terminal.OpenBracket) begins_step (excluded begins_step (is terminal.OpenBracket) refl)
+      (is (Of word.OpenBracket)) begins_step (excluded begins_step (is (Of word.OpenBracket)) refl)
       (made_starts (OneAt (by_terminal step_in)) (stepped q) begins_step (sort_starts step_in)))
-      (gives_apart (opened.Place q) operand_stop (is terminal.OpenBracket)
-      (excluded (looser 2) (is terminal.OpenBracket) refl))
+      (gives_apart (opened.Place q) operand_stop (is (Of word.OpenBracket))
+      (excluded (looser 2) (is (Of word.OpenBracket)) refl))
 
   turn_answers : (name : Text) (found : List Expression) (ts : List Token)
       → Answers ◌≤◌ (TurnAt name found) turn_stop level ts (opening_step level read name found ts)
@@ -250,8 +254,9 @@ module _ (level : ℕ) (read : Part → Reader Expression) (reads : Reads level 
       equal_answers ◌≤◌ level_self (FactoredAt name found) (TurnAt name found) turn_stop level ts (to_turn name found)
       (from_turn name found) (opening_step level read name found ts)
       (either_answers ◌≤◌ level_self (BracketAt name found) (MadeAt (λ _. StepLast (place name found)) Break)
-      (is terminal.OpenBracket) turn_stop level ts (bracket_starts name found)
-      (made_apart (λ _. StepLast (place name found)) Break operand_stop turn_stop (is terminal.OpenBracket) (λ x s e. e)
+      (is (Of word.OpenBracket)) turn_stop level ts (bracket_starts name found)
+      (made_apart (λ _. StepLast (place name found)) Break operand_stop turn_stop (is (Of word.OpenBracket))
+      (λ x s e. e)
       (step_last_apart (place name found)))
       (index_or_push level read name found ts) (made (step_last level read (place name found)) Break ts)
       (index_or_push_answers name found ts)
@@ -278,8 +283,8 @@ module _ (level : ℕ) (read : Part → Reader Expression) (reads : Reads level 
       (λ m above name. let e = end_goes_on name m above [] in
       (e.0, e.1, closed_now PieceAt (EndAt name) m [] e.0 e.1 e.2))
       (λ name us. closed_answers ◌≤◌ level_self PieceAt (EndAt name) Anything operand_stop level
-      (λ found. starts_in_more (PieceAt found) (is terminal.OpenBracket) (λ s. true) (λ s e. refl)
-      (made_starts IndexAt (one_index found) (is terminal.OpenBracket) index_starts))
+      (λ found. starts_in_more (PieceAt found) (is (Of word.OpenBracket)) (λ s. true) (λ s e. refl)
+      (made_starts IndexAt (one_index found) (is (Of word.OpenBracket)) index_starts))
       (anything_follows (EndAt name) operand_stop) (end_goes_on name) (opening_step level read name) (turn_answers name)
       [] us)
 

@@ -8,6 +8,8 @@ use Rattle.dp_expressions.specs.declared.operand.Operand.{Operand}
 use Rattle.dp_expressions.specs.declared.operand.Operand.TheVariants as opened
 use Rattle.dp_expressions.specs.declared.operand.Part.{Part}
 use Rattle.dp_expressions.specs.declared.operand.Part.TheVariants as part
+use Rattle.dp_token_rules.specs.declared.terminal.Terminal.TheVariants.{Of}
+use Rattle.dp_lexer.specs.declared.token.Word.TheVariants as word
 use Rattle.dp_token_rules.specs.declared.terminal.Terminal.{Terminal}
 use Rattle.dp_token_rules.specs.declared.terminal.Terminal.TheVariants as terminal
 use Rattle.dp_tree.specs.declared.tree.Expression.{Expression}
@@ -39,26 +41,26 @@ use Rattle.dp_token_rules.specs.TokenValues.{Text, variable_in, name_in, number_
 
 -- indices, before what is no further one
 module _ (rule : Rules ℕ Expression) (reader : Reader Expression) (level : ℕ)
-    (starts : StartsIn rule (is terminal.OpenBracket))
-    (reads : (ts : List Token) → is terminal.OpenBracket (head ts) ≡ true
+    (starts : StartsIn rule (is (Of word.OpenBracket)))
+    (reads : (ts : List Token) → is (Of word.OpenBracket) (head ts) ≡ true
     → Answers ◌≤◌ rule Anything level ts (reader ts)) where
-  pub indices_read : (h : ℕ) → ((s : Terminal) → looser h s ≡ true → is terminal.OpenBracket s ≡ false)
-      → (ts : List Token) → Answers ◌≤◌ (ManyAt rule) (stop_at h) level ts (many (is terminal.OpenBracket) reader ts)
+  pub indices_read : (h : ℕ) → ((s : Terminal) → looser h s ≡ true → is (Of word.OpenBracket) s ≡ false)
+      → (ts : List Token) → Answers ◌≤◌ (ManyAt rule) (stop_at h) level ts (many (is (Of word.OpenBracket)) reader ts)
   indices_read h apart ts =
-      many_answers rule ◌≤◌ level_self (is terminal.OpenBracket) Anything (stop_at h) level reader starts
+      many_answers rule ◌≤◌ level_self (is (Of word.OpenBracket)) Anything (stop_at h) level reader starts
       (λ a s e. refl) (λ all a s e. refl) (λ all s e. apart s e) reads ts
 
   pub place_read : (ts : List Token)
       → Answers ◌≤◌ (λ m. PlaceOf (rule m)) (stop_at 1) level ts
-      ((variable >>= (λ name. many (is terminal.OpenBracket) reader >>= (λ found. gives (place name found)))) ts)
+      ((variable >>= (λ name. many (is (Of word.OpenBracket)) reader >>= (λ found. gives (place name found)))) ts)
   unfolding variable
   place_read ts =
       one_then (by_kind variable_in) (λ name. MadeAt (ManyAt rule) (place name)) (stop_at 1) level ts
-      (λ name. many (is terminal.OpenBracket) reader >>= (λ found. gives (place name found)))
+      (λ name. many (is (Of word.OpenBracket)) reader >>= (λ found. gives (place name found)))
       (λ m above name. ([], place name [], give (Many (rule m)) (place name) [] [] (many_none rule m)))
       (λ name us. made_answers ◌≤◌ level_self (ManyAt rule) (place name) (stop_at 1) (stop_at 1) level us (λ a s e. e)
-      (many (is terminal.OpenBracket) reader us)
-      (indices_read 1 (excluded (looser 1) (is terminal.OpenBracket) refl) us))
+      (many (is (Of word.OpenBracket)) reader us)
+      (indices_read 1 (excluded (looser 1) (is (Of word.OpenBracket)) refl) us))
 
 -- ---- an expression between two tokens
 
@@ -81,7 +83,7 @@ enclosed_opens before after k e x is_before =
 
 -- where an item may end
 abbrev pub item_stop : Item → Terminal → Bool
-item_stop a s = looser 12 s && not (is terminal.Arrow s)
+item_stop a s = looser 12 s && not (is (Of word.Arrow) s)
 
 module _ (level : ℕ) (read : Part → Reader Expression) (reads : Reads level read) where
   whole_reads : 0 < level → (ts : List Token)
@@ -113,19 +115,20 @@ module _ (level : ℕ) (read : Part → Reader Expression) (reads : Reads level 
       (mark before >> (read part.Whole >>= (λ e. mark after >> gives e))) no_end here
       (enclosed_opens before after k e) (λ some. enclosed_reads before after k e loose some ts)
 
-  pub index_answers : (ts : List Token) → is terminal.OpenBracket (head ts) ≡ true
+  pub index_answers : (ts : List Token) → is (Of word.OpenBracket) (head ts) ≡ true
       → Answers ◌≤◌ IndexAt Anything level ts (index level read ts)
   unfolding index
   index_answers ts here =
-      enclosed_answers terminal.OpenBracket terminal.CloseBracket kind.CloseBracket refl refl refl ts here
+      enclosed_answers (Of word.OpenBracket) (Of word.CloseBracket) (kind.Word word.CloseBracket) refl refl refl ts here
 
-  pub group_answers : (ts : List Token) → is terminal.OpenParenthesis (head ts) ≡ true
+  pub group_answers : (ts : List Token) → is (Of word.OpenParenthesis) (head ts) ≡ true
       → Answers ◌≤◌ GroupAt Anything level ts (group level read ts)
   unfolding group
   group_answers ts here =
-      enclosed_answers terminal.OpenParenthesis terminal.CloseParenthesis kind.CloseParenthesis refl refl refl ts here
+      enclosed_answers (Of word.OpenParenthesis) (Of word.CloseParenthesis) (kind.Word word.CloseParenthesis) refl refl
+      refl ts here
 
-  pub indices_answers : (h : ℕ) → ((s : Terminal) → looser h s ≡ true → is terminal.OpenBracket s ≡ false)
+  pub indices_answers : (h : ℕ) → ((s : Terminal) → looser h s ≡ true → is (Of word.OpenBracket) s ≡ false)
       → (ts : List Token) → Answers ◌≤◌ (ManyAt IndexAt) (stop_at h) level ts (indices level read ts)
   unfolding indices
   indices_answers h apart ts = indices_read IndexAt (index level read) level index_starts index_answers h apart ts
@@ -144,40 +147,40 @@ module _ (level : ℕ) (read : Part → Reader Expression) (reads : Reads level 
   -- ---- items and lists
 
   arrow_starts : (first : Expression)
-      → StartsIn (MadeAt (JoinedAt (MarkAt terminal.Arrow) (λ _. Under part.Whole)) (λ value. item (Some first) value))
-      (is terminal.Arrow)
+      → StartsIn (MadeAt (JoinedAt (MarkAt (Of word.Arrow)) (λ _. Under part.Whole)) (λ value. item (Some first) value))
+      (is (Of word.Arrow))
   arrow_starts first =
-      made_starts (JoinedAt (MarkAt terminal.Arrow) (λ _. Under part.Whole)) (λ value. item (Some first) value)
-      (is terminal.Arrow) (joined_starts (MarkAt terminal.Arrow) (λ _. Under part.Whole) (is terminal.Arrow)
-      (mark_starts terminal.Arrow))
+      made_starts (JoinedAt (MarkAt (Of word.Arrow)) (λ _. Under part.Whole)) (λ value. item (Some first) value)
+      (is (Of word.Arrow)) (joined_starts (MarkAt (Of word.Arrow)) (λ _. Under part.Whole) (is (Of word.Arrow))
+      (mark_starts (Of word.Arrow)))
 
   abbrev ItemRestAt : Expression → Rules ℕ Item
   ItemRestAt first m = ItemRest m (inner m) first
 
   item_rest_follows : Follows (stop_at 12) ItemRestAt item_stop
   item_rest_follows =
-      either_follows (stop_at 12) (λ first. MadeAt (JoinedAt (MarkAt terminal.Arrow) (λ _. Under part.Whole))
+      either_follows (stop_at 12) (λ first. MadeAt (JoinedAt (MarkAt (Of word.Arrow)) (λ _. Under part.Whole))
       (λ value. item (Some first) value)) (λ first. GivesAt (item None first)) item_stop
-      (starts_follow (stop_at 12) (λ first. MadeAt (JoinedAt (MarkAt terminal.Arrow) (λ _. Under part.Whole))
-      (λ value. item (Some first) value)) item_stop (is terminal.Arrow)
-      (λ a s e. mark_passes (looser 12) terminal.Arrow refl s e) arrow_starts)
+      (starts_follow (stop_at 12) (λ first. MadeAt (JoinedAt (MarkAt (Of word.Arrow)) (λ _. Under part.Whole))
+      (λ value. item (Some first) value)) item_stop (is (Of word.Arrow))
+      (λ a s e. mark_passes (looser 12) (Of word.Arrow) refl s e) arrow_starts)
       (gives_follow (λ first. item None first) (stop_at 12) item_stop
-      (λ a s e. (and_parts (looser 12 s) (not (is terminal.Arrow s)) e).0))
+      (λ a s e. (and_parts (looser 12 s) (not (is (Of word.Arrow) s)) e).0))
 
   item_rest_answers : 0 < level → (first : Expression) (ts : List Token)
       → Answers ◌≤◌ (ItemRestAt first) item_stop level ts (item_rest level read first ts)
   unfolding item_rest
   item_rest_answers some first ts =
-      either_answers ◌≤◌ level_self (MadeAt (JoinedAt (MarkAt terminal.Arrow) (λ _. Under part.Whole))
-      (λ value. item (Some first) value)) (GivesAt (item None first)) (is terminal.Arrow) item_stop level ts
-      (arrow_starts first) (gives_apart (item None first) item_stop (is terminal.Arrow)
-      (λ s e. not_true (is terminal.Arrow s) (and_parts (looser 12 s) (not (is terminal.Arrow s)) e).1))
-      (made (mark terminal.Arrow >> read part.Whole) (λ value. item (Some first) value) ts) (Ok (item None first, ts))
-      (λ _. made_answers ◌≤◌ level_self (JoinedAt (MarkAt terminal.Arrow) (λ _. Under part.Whole))
+      either_answers ◌≤◌ level_self (MadeAt (JoinedAt (MarkAt (Of word.Arrow)) (λ _. Under part.Whole))
+      (λ value. item (Some first) value)) (GivesAt (item None first)) (is (Of word.Arrow)) item_stop level ts
+      (arrow_starts first) (gives_apart (item None first) item_stop (is (Of word.Arrow))
+      (λ s e. not_true (is (Of word.Arrow) s) (and_parts (looser 12 s) (not (is (Of word.Arrow) s)) e).1))
+      (made (mark (Of word.Arrow) >> read part.Whole) (λ value. item (Some first) value) ts) (Ok (item None first, ts))
+      (λ _. made_answers ◌≤◌ level_self (JoinedAt (MarkAt (Of word.Arrow)) (λ _. Under part.Whole))
       (λ value. item (Some first) value) (stop_at 12) item_stop level ts
-      (λ a s e. (and_parts (looser 12 s) (not (is terminal.Arrow s)) e).0)
-      ((mark terminal.Arrow >> read part.Whole) ts)
-      (mark_then ◌≤◌ level_self terminal.Arrow (λ _. Under part.Whole) (stop_at 12) level (λ _. read part.Whole)
+      (λ a s e. (and_parts (looser 12 s) (not (is (Of word.Arrow) s)) e).0)
+      ((mark (Of word.Arrow) >> read part.Whole) ts)
+      (mark_then ◌≤◌ level_self (Of word.Arrow) (λ _. Under part.Whole) (stop_at 12) level (λ _. read part.Whole)
       (λ m above _. some_whole_under level some m above) (λ _. whole_reads some) ts))
       (λ _. gives_answers ◌≤◌ level_self (item None first) item_stop level ts)
 
@@ -202,8 +205,8 @@ module _ (level : ℕ) (read : Part → Reader Expression) (reads : Reads level 
       )
 
   array_items : (close : Terminal) (k : TokenKind) → same_terminal (terminal_of k) close ≡ true
-      → begins_expression close ≡ false → same_terminal close terminal.Comma ≡ false
-      → (looser 12 close && not (is terminal.Arrow close)) ≡ true
+      → begins_expression close ≡ false → same_terminal close (Of word.Comma) ≡ false
+      → (looser 12 close && not (is (Of word.Arrow) close)) ≡ true
       → 0 < level → AreItems ◌≤◌ (λ _. ItemAt) close item_stop begins_expression level (λ _. item_rule level read)
   array_items close k e not_close apart loose some = record {
     starts = λ all. item_starts;
@@ -219,7 +222,7 @@ module _ (level : ℕ) (read : Part → Reader Expression) (reads : Reads level 
   }
 
   arguments : 0 < level
-      → AreItems ◌≤◌ (λ _. Under part.Whole) terminal.CloseParenthesis (stop_at 12) begins_expression level
+      → AreItems ◌≤◌ (λ _. Under part.Whole) (Of word.CloseParenthesis) (stop_at 12) begins_expression level
       (λ _. read part.Whole)
   arguments some = record {
     starts = λ all. whole_under_starts;
@@ -228,13 +231,14 @@ module _ (level : ℕ) (read : Part → Reader Expression) (reads : Reads level 
     close_apart = refl;
     stops_comma = λ a. refl;
     stops_close = λ a. refl;
-    closing = placed kind.CloseParenthesis;
+    closing = placed (kind.Word word.CloseParenthesis);
     closes = refl;
     some_item = some_whole_under level some;
     reads = λ all ts. whole_reads some ts;
   }
 
-  places : 0 < level → AreItems ◌≤◌ (λ _. PlaceUnder) terminal.CloseParenthesis (stop_at 1) (is terminal.Variable) level
+  places : 0 < level → AreItems ◌≤◌ (λ _. PlaceUnder) (Of word.CloseParenthesis) (stop_at 1) (is terminal.Variable)
+      level
       (λ _. place_below level read)
   places some = record {
     starts = λ all. place_under_starts;
@@ -243,7 +247,7 @@ module _ (level : ℕ) (read : Part → Reader Expression) (reads : Reads level 
     close_apart = refl;
     stops_comma = λ a. refl;
     stops_close = λ a. refl;
-    closing = placed kind.CloseParenthesis;
+    closing = placed (kind.Word word.CloseParenthesis);
     closes = refl;
     some_item = λ m above. (variable_text, variable_place, least_place ((inner m).index));
     reads = λ all ts. place_below_answers some ts;
@@ -257,12 +261,12 @@ empty_items item close k e = inl (give (Mark close) (λ _. []) (placed k ∷ [])
 
 -- `$a)`
 abbrev one_place_text : List Token
-one_place_text = placed (kind.Variable variable_name) ∷ (placed kind.CloseParenthesis ∷ [])
+one_place_text = placed (kind.Variable variable_name) ∷ (placed (kind.Word word.CloseParenthesis) ∷ [])
 
-one_place : (m : ℕ) → SomeItems (λ _. PlaceUnder m) terminal.CloseParenthesis one_place_text (variable_place ∷ [])
+one_place : (m : ℕ) → SomeItems (λ _. PlaceUnder m) (Of word.CloseParenthesis) one_place_text (variable_place ∷ [])
 one_place m =
-    let close = placed kind.CloseParenthesis ∷ [] in
-    let end : Rule ℕ = Joined (Perhaps (Mark terminal.Comma)) (λ _. Mark terminal.CloseParenthesis) in
+    let close = placed (kind.Word word.CloseParenthesis) ∷ [] in
+    let end : Rule ℕ = Joined (Perhaps (Mark (Of word.Comma))) (λ _. Mark (Of word.CloseParenthesis)) in
     behind (PlaceUnder m) (λ first. Closed (NextItem (λ _. PlaceUnder m)) (λ all. Made end (λ _. all)) (first ∷ []))
     variable_text close variable_place (variable_place ∷ []) (least_place ((inner m).index))
     (no_more (NextItem (λ _. PlaceUnder m)) (λ all. Made end (λ _. all)) (variable_place ∷ []) close
@@ -275,7 +279,7 @@ one_place m =
       split = refl;
       one = inr
           (gives_it None);
-      other = mark_of terminal.CloseParenthesis (placed kind.CloseParenthesis) refl;
+      other = mark_of (Of word.CloseParenthesis) (placed (kind.Word word.CloseParenthesis)) refl;
     })))
 
 abbrev pub ListedAt : {A : Type 0} → Terminal → Rules ℕ (List A) → (List A → Expression) → Rules ℕ Expression
@@ -297,7 +301,7 @@ listed_reads level before items f reader can reads ts =
     (λ _. made_reads ◌≤◌ level_self items f Anything Anything level reader (λ a s e. refl) reads) ts
 
 abbrev open_token : Token
-open_token = placed kind.OpenParenthesis
+open_token = placed (kind.Word word.OpenParenthesis)
 
 -- behind a place, an operand may end where it does, and `[]` anywhere
 abbrev pub operand_stop : Operand → Terminal → Bool
@@ -315,110 +319,115 @@ module _ (level : ℕ) (read : Part → Reader Expression) (reads : Reads level 
   ItemsAt close = AnyItemsAt (λ _. ItemAt) close
 
   abbrev ArgumentsAt : Rules ℕ (List Expression)
-  ArgumentsAt = AnyItemsAt (λ _. Under part.Whole) terminal.CloseParenthesis
+  ArgumentsAt = AnyItemsAt (λ _. Under part.Whole) (Of word.CloseParenthesis)
 
   abbrev PlacesAt : Rules ℕ (List Place)
-  PlacesAt = SomeItemsAt (λ _. PlaceUnder) terminal.CloseParenthesis
+  PlacesAt = SomeItemsAt (λ _. PlaceUnder) (Of word.CloseParenthesis)
 
-  literal_answers : (ts : List Token) → is terminal.OpenBracket (head ts) ≡ true
+  literal_answers : (ts : List Token) → is (Of word.OpenBracket) (head ts) ≡ true
       → Answers ◌≤◌ LiteralAt Anything level ts (literal level read ts)
   unfolding literal
   literal_answers ts here =
-      let items = array_items level read reads terminal.CloseBracket kind.CloseBracket refl refl refl refl in
-      nested_answers (is terminal.OpenBracket) (ListedAt terminal.OpenBracket
-      (ItemsAt terminal.CloseBracket) tree.Array) Anything level ts
-      (mark terminal.OpenBracket >> made (any_items (λ _. item_rule level read) terminal.CloseBracket) tree.Array)
+      let items = array_items level read reads (Of word.CloseBracket) (kind.Word word.CloseBracket) refl refl refl refl
+      in
+      nested_answers (is (Of word.OpenBracket)) (ListedAt (Of word.OpenBracket)
+      (ItemsAt (Of word.CloseBracket)) tree.Array) Anything level ts
+      (mark (Of word.OpenBracket) >> made (any_items (λ _. item_rule level read) (Of word.CloseBracket)) tree.Array)
       refl here
       (λ x e. (
-        placed kind.CloseBracket
+        placed (kind.Word word.CloseBracket)
             ∷ [],
         tree.Array [],
-        listed_some terminal.OpenBracket x e (ItemsAt terminal.CloseBracket) tree.Array 2
-            (placed kind.CloseBracket
-            ∷ []) [] (empty_items (λ _. ItemAt 2) terminal.CloseBracket kind.CloseBracket refl),
+        listed_some (Of word.OpenBracket) x e (ItemsAt (Of word.CloseBracket)) tree.Array 2
+            (placed (kind.Word word.CloseBracket)
+            ∷ []) [] (empty_items (λ _. ItemAt 2) (Of word.CloseBracket) (kind.Word word.CloseBracket) refl),
       ))
-      (λ some. listed_reads level terminal.OpenBracket (ItemsAt terminal.CloseBracket) tree.Array
-      (any_items (λ _. item_rule level read) terminal.CloseBracket)
-      (any_items_can ◌≤◌ level_self (λ _. ItemAt) terminal.CloseBracket item_stop begins_expression level
+      (λ some. listed_reads level (Of word.OpenBracket) (ItemsAt (Of word.CloseBracket)) tree.Array
+      (any_items (λ _. item_rule level read) (Of word.CloseBracket))
+      (any_items_can ◌≤◌ level_self (λ _. ItemAt) (Of word.CloseBracket) item_stop begins_expression level
       (λ _. item_rule level read) (items some))
-      (any_items_answers ◌≤◌ level_self (λ _. ItemAt) terminal.CloseBracket item_stop begins_expression level
+      (any_items_answers ◌≤◌ level_self (λ _. ItemAt) (Of word.CloseBracket) item_stop begins_expression level
       (λ _. item_rule level read) (items some)) ts)
 
   array_reads : 0 < level → (ts : List Token)
-      → Answers ◌≤◌ (ListedAt terminal.OpenParenthesis (ItemsAt terminal.CloseParenthesis) tree.Array) Anything level ts
-      ((mark terminal.OpenParenthesis >> made (any_items (λ _. item_rule level read) terminal.CloseParenthesis)
+      → Answers ◌≤◌ (ListedAt (Of word.OpenParenthesis) (ItemsAt (Of word.CloseParenthesis)) tree.Array) Anything level
+      ts
+      ((mark (Of word.OpenParenthesis) >> made (any_items (λ _. item_rule level read) (Of word.CloseParenthesis))
       tree.Array) ts)
   array_reads some =
-      let items = array_items level read reads terminal.CloseParenthesis kind.CloseParenthesis refl refl refl refl some
+      let items = array_items level read reads (Of word.CloseParenthesis) (kind.Word word.CloseParenthesis) refl refl
+      refl refl some
       in
-      listed_reads level terminal.OpenParenthesis (ItemsAt terminal.CloseParenthesis) tree.Array
-      (any_items (λ _. item_rule level read) terminal.CloseParenthesis)
-      (any_items_can ◌≤◌ level_self (λ _. ItemAt) terminal.CloseParenthesis item_stop begins_expression level
+      listed_reads level (Of word.OpenParenthesis) (ItemsAt (Of word.CloseParenthesis)) tree.Array
+      (any_items (λ _. item_rule level read) (Of word.CloseParenthesis))
+      (any_items_can ◌≤◌ level_self (λ _. ItemAt) (Of word.CloseParenthesis) item_stop begins_expression level
       (λ _. item_rule level read) items)
-      (any_items_answers ◌≤◌ level_self (λ _. ItemAt) terminal.CloseParenthesis item_stop begins_expression level
+      (any_items_answers ◌≤◌ level_self (λ _. ItemAt) (Of word.CloseParenthesis) item_stop begins_expression level
       (λ _. item_rule level read) items)
 
   some_array : (m : ℕ)
-      → ListedAt terminal.OpenParenthesis (ItemsAt terminal.CloseParenthesis) tree.Array m
-      (open_token ∷ (placed kind.CloseParenthesis ∷ [])) (tree.Array [])
+      → ListedAt (Of word.OpenParenthesis) (ItemsAt (Of word.CloseParenthesis)) tree.Array m
+      (open_token ∷ (placed (kind.Word word.CloseParenthesis) ∷ [])) (tree.Array [])
   some_array m =
-      listed_some terminal.OpenParenthesis open_token refl (ItemsAt terminal.CloseParenthesis) tree.Array m
-      (placed kind.CloseParenthesis
-      ∷ []) [] (empty_items (λ _. ItemAt m) terminal.CloseParenthesis kind.CloseParenthesis refl)
+      listed_some (Of word.OpenParenthesis) open_token refl (ItemsAt (Of word.CloseParenthesis)) tree.Array m
+      (placed (kind.Word word.CloseParenthesis)
+      ∷ []) [] (empty_items (λ _. ItemAt m) (Of word.CloseParenthesis) (kind.Word word.CloseParenthesis) refl)
 
-  array_call_answers : (ts : List Token) → is terminal.Array (head ts) ≡ true
+  array_call_answers : (ts : List Token) → is (Of word.Array) (head ts) ≡ true
       → Answers ◌≤◌ ArrayCallAt Anything level ts (array_call level read ts)
   unfolding array_call
   array_call_answers ts here =
-      let rest = ListedAt terminal.OpenParenthesis (ItemsAt terminal.CloseParenthesis) tree.Array in
-      let reader : Reader Expression = mark terminal.OpenParenthesis >> made
-      (any_items (λ _. item_rule level read) terminal.CloseParenthesis) tree.Array in
-      nested_answers (is terminal.Array) (JoinedAt (MarkAt terminal.Array) (λ _. rest)) Anything level ts
-      (mark terminal.Array >> reader) refl here
+      let rest = ListedAt (Of word.OpenParenthesis) (ItemsAt (Of word.CloseParenthesis)) tree.Array in
+      let reader : Reader Expression = mark (Of word.OpenParenthesis) >> made
+      (any_items (λ _. item_rule level read) (Of word.CloseParenthesis)) tree.Array in
+      nested_answers (is (Of word.Array)) (JoinedAt (MarkAt (Of word.Array)) (λ _. rest)) Anything level ts
+      (mark (Of word.Array) >> reader) refl here
       (λ x e. (
         open_token
-            ∷ (placed kind.CloseParenthesis ∷ []),
+            ∷ (placed (kind.Word word.CloseParenthesis) ∷ []),
         tree.Array [],
-        marked terminal.Array x (rest 2) (open_token ∷ (placed kind.CloseParenthesis ∷ [])) (tree.Array []) e
+        marked (Of word.Array) x (rest 2) (open_token ∷ (placed (kind.Word word.CloseParenthesis) ∷ [])) (tree.Array [])
+            e
             (some_array 2),
       ))
-      (λ some. mark_then ◌≤◌ level_self terminal.Array (λ _. rest) Anything level (λ _. reader)
-      (λ m above _. (open_token ∷ (placed kind.CloseParenthesis ∷ []), tree.Array [], some_array m))
+      (λ some. mark_then ◌≤◌ level_self (Of word.Array) (λ _. rest) Anything level (λ _. reader)
+      (λ m above _. (open_token ∷ (placed (kind.Word word.CloseParenthesis) ∷ []), tree.Array [], some_array m))
       (λ _. array_reads some) ts)
 
   call_reads : 0 < level → (name : Text) (ts : List Token)
-      → Answers ◌≤◌ (ListedAt terminal.OpenParenthesis ArgumentsAt (tree.Call name)) Anything level ts
-      ((mark terminal.OpenParenthesis >> made (any_items (λ _. read part.Whole) terminal.CloseParenthesis)
+      → Answers ◌≤◌ (ListedAt (Of word.OpenParenthesis) ArgumentsAt (tree.Call name)) Anything level ts
+      ((mark (Of word.OpenParenthesis) >> made (any_items (λ _. read part.Whole) (Of word.CloseParenthesis))
       (tree.Call name)) ts)
   call_reads some name =
       let items = arguments level read reads some in
-      listed_reads level terminal.OpenParenthesis ArgumentsAt (tree.Call name)
-      (any_items (λ _. read part.Whole) terminal.CloseParenthesis)
-      (any_items_can ◌≤◌ level_self (λ _. Under part.Whole) terminal.CloseParenthesis
+      listed_reads level (Of word.OpenParenthesis) ArgumentsAt (tree.Call name)
+      (any_items (λ _. read part.Whole) (Of word.CloseParenthesis))
+      (any_items_can ◌≤◌ level_self (λ _. Under part.Whole) (Of word.CloseParenthesis)
       (stop_at 12) begins_expression level (λ _. read part.Whole) items)
-      (any_items_answers ◌≤◌ level_self (λ _. Under part.Whole) terminal.CloseParenthesis
+      (any_items_answers ◌≤◌ level_self (λ _. Under part.Whole) (Of word.CloseParenthesis)
       (stop_at 12) begins_expression level (λ _. read part.Whole) items)
 
   -- behind a name
 
   abbrev ArgumentListAt : Text → Rules ℕ Expression
-  ArgumentListAt name = ListedAt terminal.OpenParenthesis ArgumentsAt (tree.Call name)
+  ArgumentListAt name = ListedAt (Of word.OpenParenthesis) ArgumentsAt (tree.Call name)
 
   abbrev BehindNameAt : Text → Rules ℕ Expression
   BehindNameAt name = EitherAt (NestedAt (ArgumentListAt name)) (GivesAt (tree.Constant name))
 
-  call_answers : (name : Text) (ts : List Token) → is terminal.OpenParenthesis (head ts) ≡ true
+  call_answers : (name : Text) (ts : List Token) → is (Of word.OpenParenthesis) (head ts) ≡ true
       → Answers ◌≤◌ (NestedAt (ArgumentListAt name)) Anything level ts (call level read name ts)
   unfolding call
   call_answers name ts here =
-      nested_answers (is terminal.OpenParenthesis) (ArgumentListAt name) Anything level ts
-      (mark terminal.OpenParenthesis >> made (any_items (λ _. read part.Whole) terminal.CloseParenthesis)
+      nested_answers (is (Of word.OpenParenthesis)) (ArgumentListAt name) Anything level ts
+      (mark (Of word.OpenParenthesis) >> made (any_items (λ _. read part.Whole) (Of word.CloseParenthesis))
       (tree.Call name)) refl here
       (λ x e. (
-        placed kind.CloseParenthesis ∷ [],
+        placed (kind.Word word.CloseParenthesis) ∷ [],
         tree.Call name [],
-        listed_some terminal.OpenParenthesis x e ArgumentsAt (tree.Call name) 2 (placed kind.CloseParenthesis ∷ []) []
-            (empty_items (λ _. Under part.Whole 2) terminal.CloseParenthesis kind.CloseParenthesis refl),
+        listed_some (Of word.OpenParenthesis) x e ArgumentsAt (tree.Call name) 2
+            (placed (kind.Word word.CloseParenthesis) ∷ []) []
+            (empty_items (λ _. Under part.Whole 2) (Of word.CloseParenthesis) (kind.Word word.CloseParenthesis) refl),
       ))
       (λ some. call_reads some name ts)
 
@@ -427,12 +436,12 @@ module _ (level : ℕ) (read : Part → Reader Expression) (reads : Reads level 
   unfolding behind_name
   behind_name_answers name ts =
       either_answers ◌≤◌ level_self (NestedAt (ArgumentListAt name)) (GivesAt (tree.Constant name))
-      (is terminal.OpenParenthesis) (stop_at 0) level ts
-      (nests_starts (λ m. m) (ArgumentListAt name) (is terminal.OpenParenthesis)
-      (joined_starts (MarkAt terminal.OpenParenthesis) (λ _. MadeAt ArgumentsAt (tree.Call name))
-      (is terminal.OpenParenthesis) (mark_starts terminal.OpenParenthesis)))
-      (gives_apart (tree.Constant name) (stop_at 0) (is terminal.OpenParenthesis)
-      (excluded (looser 0) (is terminal.OpenParenthesis) refl))
+      (is (Of word.OpenParenthesis)) (stop_at 0) level ts
+      (nests_starts (λ m. m) (ArgumentListAt name) (is (Of word.OpenParenthesis))
+      (joined_starts (MarkAt (Of word.OpenParenthesis)) (λ _. MadeAt ArgumentsAt (tree.Call name))
+      (is (Of word.OpenParenthesis)) (mark_starts (Of word.OpenParenthesis))))
+      (gives_apart (tree.Constant name) (stop_at 0) (is (Of word.OpenParenthesis))
+      (excluded (looser 0) (is (Of word.OpenParenthesis)) refl))
       (call level read name ts) (Ok (tree.Constant name, ts))
       (λ here. ends_itself (NestedAt (ArgumentListAt name)) ts (call level read name ts) (call_answers name ts here))
       (λ _. gives_answers ◌≤◌ level_self (tree.Constant name) (stop_at 0) level ts)
@@ -491,42 +500,42 @@ module _ (level : ℕ) (read : Part → Reader Expression) (reads : Reads level 
       (λ m above name. ([], tree.Constant name, inr (gives_it (tree.Constant name)))) behind_name_answers)
 
   isset_reads : 0 < level → (ts : List Token)
-      → Answers ◌≤◌ (ListedAt terminal.OpenParenthesis PlacesAt tree.Isset) Anything level ts
-      ((mark terminal.OpenParenthesis >> made (some_items (λ _. place_below level read) terminal.CloseParenthesis)
+      → Answers ◌≤◌ (ListedAt (Of word.OpenParenthesis) PlacesAt tree.Isset) Anything level ts
+      ((mark (Of word.OpenParenthesis) >> made (some_items (λ _. place_below level read) (Of word.CloseParenthesis))
       tree.Isset) ts)
   isset_reads some =
       let items = places level read reads some in
-      listed_reads level terminal.OpenParenthesis PlacesAt tree.Isset
-      (some_items (λ _. place_below level read) terminal.CloseParenthesis)
-      (some_items_can ◌≤◌ level_self (λ _. PlaceUnder) terminal.CloseParenthesis (stop_at 1)
+      listed_reads level (Of word.OpenParenthesis) PlacesAt tree.Isset
+      (some_items (λ _. place_below level read) (Of word.CloseParenthesis))
+      (some_items_can ◌≤◌ level_self (λ _. PlaceUnder) (Of word.CloseParenthesis) (stop_at 1)
       (is terminal.Variable) level (λ _. place_below level read) items)
-      (some_items_answers ◌≤◌ level_self (λ _. PlaceUnder) terminal.CloseParenthesis (stop_at 1)
+      (some_items_answers ◌≤◌ level_self (λ _. PlaceUnder) (Of word.CloseParenthesis) (stop_at 1)
       (is terminal.Variable) level (λ _. place_below level read) items)
 
   some_isset : (m : ℕ)
-      → ListedAt terminal.OpenParenthesis PlacesAt tree.Isset m (open_token ∷ one_place_text)
+      → ListedAt (Of word.OpenParenthesis) PlacesAt tree.Isset m (open_token ∷ one_place_text)
       (tree.Isset (variable_place ∷ []))
   some_isset m =
-      listed_some terminal.OpenParenthesis open_token refl PlacesAt tree.Isset m one_place_text (variable_place ∷ [])
+      listed_some (Of word.OpenParenthesis) open_token refl PlacesAt tree.Isset m one_place_text (variable_place ∷ [])
       (one_place m)
 
-  isset_answers : (ts : List Token) → is terminal.Isset (head ts) ≡ true
+  isset_answers : (ts : List Token) → is (Of word.Isset) (head ts) ≡ true
       → Answers ◌≤◌ IssetAt Anything level ts (isset level read ts)
   unfolding isset
   isset_answers ts here =
-      let rest = ListedAt terminal.OpenParenthesis PlacesAt tree.Isset in
-      let reader : Reader Expression = mark terminal.OpenParenthesis >> made
-      (some_items (λ _. place_below level read) terminal.CloseParenthesis) tree.Isset in
-      nested_answers (is terminal.Isset) (JoinedAt (MarkAt terminal.Isset) (λ _. rest)) Anything level ts
-      (mark terminal.Isset >> reader) refl here
+      let rest = ListedAt (Of word.OpenParenthesis) PlacesAt tree.Isset in
+      let reader : Reader Expression = mark (Of word.OpenParenthesis) >> made
+      (some_items (λ _. place_below level read) (Of word.CloseParenthesis)) tree.Isset in
+      nested_answers (is (Of word.Isset)) (JoinedAt (MarkAt (Of word.Isset)) (λ _. rest)) Anything level ts
+      (mark (Of word.Isset) >> reader) refl here
       (λ x e. (
         open_token
             ∷ one_place_text,
         tree.Isset (variable_place ∷ []),
-        marked terminal.Isset x (rest 2) (open_token ∷ one_place_text) (tree.Isset (variable_place ∷ [])) e
+        marked (Of word.Isset) x (rest 2) (open_token ∷ one_place_text) (tree.Isset (variable_place ∷ [])) e
             (some_isset 2),
       ))
-      (λ some. mark_then ◌≤◌ level_self terminal.Isset (λ _. rest) Anything level (λ _. reader)
+      (λ some. mark_then ◌≤◌ level_self (Of word.Isset) (λ _. rest) Anything level (λ _. reader)
       (λ m above _. (open_token ∷ one_place_text, tree.Isset (variable_place ∷ []), some_isset m))
       (λ _. isset_reads some) ts)
 
@@ -567,13 +576,13 @@ module _ (level : ℕ) (read : Part → Reader Expression) (reads : Reads level 
       (λ _. choice_answers ConstantAt FromGroup begins_constant begins_behind_group (stop_at 0) level ts refl
       (sort_starts constant_in) behind_group_starts _ _ (λ _. one_answers ◌≤◌ level_self
       (by_terminal constant_in) (stop_at 0) level ts)
-      (λ _. choice_answers GroupAt FromBracket (is terminal.OpenParenthesis) begins_behind_bracket (stop_at 0) level ts
+      (λ _. choice_answers GroupAt FromBracket (is (Of word.OpenParenthesis)) begins_behind_bracket (stop_at 0) level ts
       refl group_starts behind_bracket_starts _ _
       (λ here. ends_itself GroupAt ts (group level read ts) (group_answers level read reads ts here))
-      (λ _. choice_answers LiteralAt FromArray (is terminal.OpenBracket) begins_behind_array (stop_at 0) level ts refl
+      (λ _. choice_answers LiteralAt FromArray (is (Of word.OpenBracket)) begins_behind_array (stop_at 0) level ts refl
       literal_starts behind_array_starts _ _
       (λ here. ends_itself LiteralAt ts (literal level read ts) (literal_answers ts here))
-      (λ _. choice_answers ArrayCallAt NamedAt (is terminal.Array)
+      (λ _. choice_answers ArrayCallAt NamedAt (is (Of word.Array))
       (is terminal.Name) (stop_at 0) level ts refl array_call_starts named_starts _ _
       (λ here. ends_itself ArrayCallAt ts (array_call level read ts) (array_call_answers ts here))
       (λ _. guarded_answers ◌≤◌ level_self NamedAt (is terminal.Name) (stop_at 0) level ts named_starts
@@ -585,9 +594,9 @@ module _ (level : ℕ) (read : Part → Reader Expression) (reads : Reads level 
       made_follows (stop_at 0) (λ _. ManyAt IndexAt) indexed (stop_at 2) (stop_at 2) (λ base all s e. e)
       (λ m base. closed_follows (λ all. MadeAt IndexAt (λ a. all ++ a ∷ [])) (λ all. GivesAt all) (stop_at 0)
       (stop_at 2)
-      (λ all. starts_in_more (MadeAt IndexAt (λ a. all ++ a ∷ [])) (is terminal.OpenBracket) (looser 0)
-      (mark_passes (looser 0) terminal.OpenBracket refl)
-      (made_starts IndexAt (λ a. all ++ a ∷ []) (is terminal.OpenBracket) index_starts))
+      (λ all. starts_in_more (MadeAt IndexAt (λ a. all ++ a ∷ [])) (is (Of word.OpenBracket)) (looser 0)
+      (mark_passes (looser 0) (Of word.OpenBracket) refl)
+      (made_starts IndexAt (λ a. all ++ a ∷ []) (is (Of word.OpenBracket)) index_starts))
       (gives_follow (λ all. all) (stop_at 0) (stop_at 2) (λ all s e. looser_less 0 2 (omega arith) s e)) m [])
 
   primary_indexed_answers : (ts : List Token)
@@ -601,7 +610,7 @@ module _ (level : ℕ) (read : Part → Reader Expression) (reads : Reads level 
       (primary_answers ts)
       (λ base us _. made_answers ◌≤◌ level_self (ManyAt IndexAt) (indexed base) (stop_at 2) (stop_at 2) level us
       (λ a s e. e) (indices level read us) (indices_answers level read reads 2
-      (excluded (looser 2) (is terminal.OpenBracket) refl) us))
+      (excluded (looser 2) (is (Of word.OpenBracket)) refl) us))
 
   prefixed_answers : (ts : List Token) → begins_prefix (head ts) ≡ true
       → Answers ◌≤◌ PrefixedAt (stop_at 2) level ts (prefixed level read ts)
@@ -665,7 +674,7 @@ module _ (level : ℕ) (read : Part → Reader Expression) (reads : Reads level 
       (stop_at 2) level ts refl stepped_first_starts behind_number_starts _ _ (stepped_first_answers ts)
       (λ _. choice_answers NumberAt FromIsset (is terminal.Number) begins_behind_isset
       (stop_at 2) level ts refl number_rule_starts behind_isset_starts _ _ (λ _. number_answers ts)
-      (λ _. choice_answers IssetAt PrimaryIndexedAt (is terminal.Isset) begins_primary
+      (λ _. choice_answers IssetAt PrimaryIndexedAt (is (Of word.Isset)) begins_primary
       (stop_at 2) level ts refl isset_starts primary_indexed_starts _ _
       (λ here. stricter_answers ◌≤◌ level_self IssetAt Anything (stop_at 2) level ts (λ a s e. refl)
       (isset level read ts) (isset_answers ts here))

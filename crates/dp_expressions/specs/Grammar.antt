@@ -8,8 +8,9 @@ use Rattle.dp_expressions.specs.declared.operand.Assignment.{Assignment}
 use Rattle.dp_expressions.specs.declared.operand.Assignment.TheVariants as assignment
 use Rattle.dp_expressions.specs.declared.rank.Rank.{Rank}
 use Rattle.dp_expressions.specs.declared.rank.Rank.TheVariants as rank
+use Rattle.dp_token_rules.specs.declared.terminal.Terminal.TheVariants.{Of}
+use Rattle.dp_lexer.specs.declared.token.Word.TheVariants as word
 use Rattle.dp_token_rules.specs.declared.terminal.Terminal.{Terminal}
-use Rattle.dp_token_rules.specs.declared.terminal.Terminal.TheVariants as terminal
 use Rattle.dp_tree.specs.declared.tree.Expression.{Expression}
 use Rattle.dp_tree.specs.declared.tree.Expression.TheVariants as tree
 use Rattle.dp_tree.specs.declared.tree.Place.{Place}
@@ -27,55 +28,55 @@ use Rattle.dp_token_rules.specs.Lists.{SomeItems, AnyItems}
 -- ---- what a token is worth, by its sort
 
 abbrev pub prefix_in : Terminal → Option UnaryOp
-prefix_in terminal.Bang = Some unary.Not
-prefix_in terminal.Minus = Some unary.Minus
-prefix_in terminal.Plus = Some unary.Plus
+prefix_in (Of word.Bang) = Some unary.Not
+prefix_in (Of word.Minus) = Some unary.Minus
+prefix_in (Of word.Plus) = Some unary.Plus
 prefix_in _ = None
 
 abbrev pub step_in : Terminal → Option UnaryOp
-step_in terminal.Increment = Some unary.Increment
-step_in terminal.Decrement = Some unary.Decrement
+step_in (Of word.Increment) = Some unary.Increment
+step_in (Of word.Decrement) = Some unary.Decrement
 step_in _ = None
 
 abbrev pub inclusion_in : Terminal → Option Inclusion
-inclusion_in terminal.Include = Some inclusion.Include
-inclusion_in terminal.Require = Some inclusion.Require
+inclusion_in (Of word.Include) = Some inclusion.Include
+inclusion_in (Of word.Require) = Some inclusion.Require
 inclusion_in _ = None
 
 abbrev pub assignment_in : Terminal → Option Assignment
-assignment_in terminal.Assign = Some assignment.Plain
-assignment_in terminal.AddAssign = Some (assignment.Compound binary.Add)
-assignment_in terminal.SubtractAssign = Some (assignment.Compound binary.Sub)
-assignment_in terminal.MultiplyAssign = Some (assignment.Compound binary.Mul)
-assignment_in terminal.ConcatAssign = Some (assignment.Compound binary.Concat)
-assignment_in terminal.RemainderAssign = Some (assignment.Compound binary.Rem)
-assignment_in terminal.CoalesceAssign = Some assignment.Coalesce
+assignment_in (Of word.Assign) = Some assignment.Plain
+assignment_in (Of word.AddAssign) = Some (assignment.Compound binary.Add)
+assignment_in (Of word.SubtractAssign) = Some (assignment.Compound binary.Sub)
+assignment_in (Of word.MultiplyAssign) = Some (assignment.Compound binary.Mul)
+assignment_in (Of word.ConcatAssign) = Some (assignment.Compound binary.Concat)
+assignment_in (Of word.RemainderAssign) = Some (assignment.Compound binary.Rem)
+assignment_in (Of word.CoalesceAssign) = Some assignment.Coalesce
 assignment_in _ = None
 
 abbrev pub constant_in : Terminal → Option Expression
-constant_in terminal.Null = Some tree.Null
-constant_in terminal.True = Some (tree.Bool true)
-constant_in terminal.False = Some (tree.Bool false)
+constant_in (Of word.Null) = Some tree.Null
+constant_in (Of word.True) = Some (tree.Bool true)
+constant_in (Of word.False) = Some (tree.Bool false)
 constant_in _ = None
 
 -- the operators of each rank
 abbrev pub operator_in : Rank → Terminal → Option Operator
-operator_in rank.Or terminal.EitherOf = Some operator.Or
-operator_in rank.And terminal.BothOf = Some operator.And
-operator_in rank.Equality terminal.Equal = Some (operator.Of binary.Equal)
-operator_in rank.Equality terminal.NotEqual = Some (operator.Of binary.NotEqual)
-operator_in rank.Equality terminal.Identical = Some (operator.Of binary.Identical)
-operator_in rank.Equality terminal.NotIdentical = Some (operator.Of binary.NotIdentical)
-operator_in rank.Equality terminal.Spaceship = Some (operator.Of binary.Spaceship)
-operator_in rank.Comparison terminal.Less = Some (operator.Of binary.Less)
-operator_in rank.Comparison terminal.LessOrEqual = Some (operator.Of binary.LessEqual)
-operator_in rank.Comparison terminal.Greater = Some (operator.Of binary.Greater)
-operator_in rank.Comparison terminal.GreaterOrEqual = Some (operator.Of binary.GreaterEqual)
-operator_in rank.Concatenation terminal.Dot = Some (operator.Of binary.Concat)
-operator_in rank.Sum terminal.Plus = Some (operator.Of binary.Add)
-operator_in rank.Sum terminal.Minus = Some (operator.Of binary.Sub)
-operator_in rank.Product terminal.Star = Some (operator.Of binary.Mul)
-operator_in rank.Product terminal.Percent = Some (operator.Of binary.Rem)
+operator_in rank.Or (Of word.EitherOf) = Some operator.Or
+operator_in rank.And (Of word.BothOf) = Some operator.And
+operator_in rank.Equality (Of word.Equal) = Some (operator.Of binary.Equal)
+operator_in rank.Equality (Of word.NotEqual) = Some (operator.Of binary.NotEqual)
+operator_in rank.Equality (Of word.Identical) = Some (operator.Of binary.Identical)
+operator_in rank.Equality (Of word.NotIdentical) = Some (operator.Of binary.NotIdentical)
+operator_in rank.Equality (Of word.Spaceship) = Some (operator.Of binary.Spaceship)
+operator_in rank.Comparison (Of word.Less) = Some (operator.Of binary.Less)
+operator_in rank.Comparison (Of word.LessOrEqual) = Some (operator.Of binary.LessEqual)
+operator_in rank.Comparison (Of word.Greater) = Some (operator.Of binary.Greater)
+operator_in rank.Comparison (Of word.GreaterOrEqual) = Some (operator.Of binary.GreaterEqual)
+operator_in rank.Concatenation (Of word.Dot) = Some (operator.Of binary.Concat)
+operator_in rank.Sum (Of word.Plus) = Some (operator.Of binary.Add)
+operator_in rank.Sum (Of word.Minus) = Some (operator.Of binary.Sub)
+operator_in rank.Product (Of word.Star) = Some (operator.Of binary.Mul)
+operator_in rank.Product (Of word.Percent) = Some (operator.Of binary.Rem)
 operator_in _ _ = None
 
 -- the ranks, those that bind more tightly later
@@ -172,9 +173,9 @@ module _ (level : ℕ) (inner : Inner) where
   -- "[" expr "]"
   abbrev pub Index : Rule Expression
   Index = Nests level (do
-    Mark terminal.OpenBracket
+    Mark (Of word.OpenBracket)
     at ← inner.expression
-    Mark terminal.CloseBracket
+    Mark (Of word.CloseBracket)
     Gives at)
 
   -- place = var *( "[" expr "]" )
@@ -184,15 +185,15 @@ module _ (level : ℕ) (inner : Inner) where
   -- "(" expr ")"
   abbrev pub Group : Rule Expression
   Group = Nests level (do
-    Mark terminal.OpenParenthesis
+    Mark (Of word.OpenParenthesis)
     within ← inner.expression
-    Mark terminal.CloseParenthesis
+    Mark (Of word.CloseParenthesis)
     Gives within)
 
   -- item = expr [ "=>" expr ]
   abbrev pub ItemRest : Expression → Rule Item
   ItemRest first =
-      Made (Mark terminal.Arrow >> inner.expression) (λ value. item (Some first) value)
+      Made (Mark (Of word.Arrow) >> inner.expression) (λ value. item (Some first) value)
       or Gives (item None first)
 
   abbrev pub ItemRule : Rule Item
@@ -201,24 +202,24 @@ module _ (level : ℕ) (inner : Inner) where
   -- "[" items "]"
   abbrev pub Literal : Rule Expression
   Literal = Nests level (do
-    Mark terminal.OpenBracket
-    items ← AnyItems (λ _. ItemRule) terminal.CloseBracket
+    Mark (Of word.OpenBracket)
+    items ← AnyItems (λ _. ItemRule) (Of word.CloseBracket)
     Gives (tree.Array items))
 
   -- "array" "(" items ")"
   abbrev pub ArrayCall : Rule Expression
   ArrayCall = Nests level (do
-    Mark terminal.Array
-    Mark terminal.OpenParenthesis
-    items ← AnyItems (λ _. ItemRule) terminal.CloseParenthesis
+    Mark (Of word.Array)
+    Mark (Of word.OpenParenthesis)
+    items ← AnyItems (λ _. ItemRule) (Of word.CloseParenthesis)
     Gives (tree.Array items))
 
   -- name "(" args ")"
   abbrev pub Call : Rule Expression
   Call = Nests level (do
     name ← Kind name_in
-    Mark terminal.OpenParenthesis
-    arguments ← AnyItems (λ _. inner.expression) terminal.CloseParenthesis
+    Mark (Of word.OpenParenthesis)
+    arguments ← AnyItems (λ _. inner.expression) (Of word.CloseParenthesis)
     Gives (tree.Call name arguments))
 
   -- a name by itself is a constant
@@ -228,9 +229,9 @@ module _ (level : ℕ) (inner : Inner) where
   -- "isset" "(" places ")"
   abbrev pub Isset : Rule Expression
   Isset = Nests level (do
-    Mark terminal.Isset
-    Mark terminal.OpenParenthesis
-    places ← SomeItems (λ _. PlaceOf inner.index) terminal.CloseParenthesis
+    Mark (Of word.Isset)
+    Mark (Of word.OpenParenthesis)
+    places ← SomeItems (λ _. PlaceOf inner.index) (Of word.CloseParenthesis)
     Gives (tree.Isset places))
 
   -- prim but var = string | "true" | "false" | "null" | "(" expr ")" | "[" items "]"
@@ -276,7 +277,7 @@ module _ (level : ℕ) (inner : Inner) where
   -- coal = or [ "??" coal ]
   abbrev pub CoalesceRest : Expression → Rule Expression
   CoalesceRest left =
-      Made (Nests level (Mark terminal.Coalesce >> inner.coalesce))
+      Made (Nests level (Mark (Of word.Coalesce) >> inner.coalesce))
       (λ right. tree.Coalesce left right)
       or Gives left
 
@@ -286,9 +287,9 @@ module _ (level : ℕ) (inner : Inner) where
   -- tern = coal [ "?" [ expr ] ":" coal ]
   abbrev pub Branches : Expression → Rule Expression
   Branches test = do
-    Mark terminal.Question
+    Mark (Of word.Question)
     middle ← Perhaps (Nests level inner.expression)
-    Mark terminal.Colon
+    Mark (Of word.Colon)
     otherwise ← CoalesceRule
     Gives (tree.Conditional test middle otherwise)
 
@@ -309,8 +310,8 @@ module _ (level : ℕ) (inner : Inner) where
   abbrev pub PushRule : Rule Expression
   PushRule = do
     to ← PlaceRule
-    Nests level (Mark terminal.OpenBracket >> Mark terminal.CloseBracket)
-    from ← Nests level (Mark terminal.Assign >> inner.expression)
+    Nests level (Mark (Of word.OpenBracket) >> Mark (Of word.CloseBracket))
+    from ← Nests level (Mark (Of word.Assign) >> inner.expression)
     Gives (tree.Push to from)
 
   -- place ( "=" | "+=" | "-=" | "*=" | ".=" | "%=" | "??=" ) expr

@@ -4,8 +4,9 @@ use Rattle.dp_lexer.specs.declared.token.Token.{Token}
 use Rattle.dp_expressions.specs.declared.operand.Part.{Part}
 use Rattle.dp_expressions.specs.declared.operand.Part.TheVariants as part
 use Rattle.dp_grammar.specs.declared.refusal.Refusal.TheVariants.{Unexpected, TooDeep, Memory}
-use Rattle.dp_token_rules.specs.declared.terminal.Terminal.TheVariants as terminal
 use Rattle.dp_tree.specs.declared.tree.Expression.{Expression}
+use Rattle.dp_token_rules.specs.declared.terminal.Terminal.TheVariants.{Of}
+use Rattle.dp_lexer.specs.declared.token.Word.TheVariants as word
 use Rattle.dp_token_rules.specs.Terminals.{head}
 use Rattle.dp_token_rules.specs.Rules.{Rule}
 use Rattle.dp_token_rules.specs.Refused.{IsViable, IsUnexpected, IsTooDeep}
@@ -46,4 +47,4 @@ abbrev pub may_read : Part → ℕ → List Token → Type 0
 may_read part.Whole level ts = ⊤
 may_read part.Coalesce level ts = ⊤
 may_read part.Alone level ts = ⊤
-may_read part.Index level ts = (0 < level) × (head ts ≡ terminal.OpenBracket)
+may_read part.Index level ts = (0 < level) × (head ts ≡ (Of word.OpenBracket))

@@ -11,7 +11,7 @@ use crate::ladders::RANKS;
 use crate::nodes::{assigned, included, pushed, value_of};
 use crate::operand::{Operand, Part};
 use crate::token_values::{assignment, assignment_in, begins_expression, inclusion, inclusion_in};
-use dp_token_rules::{Refusal, Terminal, Tokens};
+use dp_token_rules::{Refusal, Terminal, Tokens, Word};
 use dp_tree::{Boxed, Expression, Place};
 use std::alloc::Global;
 
@@ -21,7 +21,7 @@ impl<R: Inside> Grammar<R> {
         ensures { Reads (within spec.coalesce_right self.now tokens.old) result tokens.new }
     {
         self.enter(tokens)?;
-        tokens.mark(Terminal::Coalesce)?;
+        tokens.mark(Terminal::Of(Word::Coalesce))?;
         self.inner(tokens, Part::Coalesce)
     }
 
@@ -34,7 +34,7 @@ impl<R: Inside> Grammar<R> {
     ) -> Result<Expression, Refusal>
         ensures { Reads (within spec.coalesce_rest self.now left tokens.old) result tokens.new }
     {
-        if !tokens.sees(Terminal::Coalesce) {
+        if !tokens.sees(Terminal::Of(Word::Coalesce)) {
             return Ok(left);
         }
         let left = Boxed::new(self.alloc(), left)?;
@@ -70,9 +70,9 @@ impl<R: Inside> Grammar<R> {
         ensures { Reads (within spec.branches self.now test tokens.old) result tokens.new }
     {
         let test = Boxed::new(self.alloc(), test)?;
-        tokens.mark(Terminal::Question)?;
+        tokens.mark(Terminal::Of(Word::Question))?;
         let middle = self.middle(tokens)?;
-        tokens.mark(Terminal::Colon)?;
+        tokens.mark(Terminal::Of(Word::Colon))?;
         let last = self.coalesce(tokens)?;
         Ok(Expression::Conditional(test, middle, Boxed::new(self.alloc(), last)?))
     }
@@ -86,7 +86,7 @@ impl<R: Inside> Grammar<R> {
     ) -> Result<Expression, Refusal>
         ensures { Reads (within spec.conditional_rest self.now test tokens.old) result tokens.new }
     {
-        if tokens.sees(Terminal::Question) {
+        if tokens.sees(Terminal::Of(Word::Question)) {
             self.branches(tokens, test)
         } else {
             Ok(test)
@@ -120,7 +120,7 @@ impl<R: Inside> Grammar<R> {
         ensures { Reads (within spec.pushed self.now to tokens.old) result tokens.new }
     {
         self.enter(tokens)?;
-        tokens.mark(Terminal::Assign)?;
+        tokens.mark(Terminal::Of(Word::Assign))?;
         let from = self.inner(tokens, Part::Whole)?;
         Ok(pushed(self.alloc(), to, from)?)
     }

@@ -10,7 +10,7 @@ use crate::inside::Inside;
 use crate::kept::both;
 use crate::nodes::named;
 use crate::operand::{Operand, Part};
-use dp_token_rules::{Refusal, Terminal, Tokens, none, with};
+use dp_token_rules::{Refusal, Terminal, Tokens, Word, none, with};
 use dp_tree::Expression;
 use dp_value::Items;
 use std::alloc::Global;
@@ -28,14 +28,14 @@ impl<R: Inside> Grammar<R> {
         ensures { Reads (within spec.index_or_push self.now name.now found tokens.old) result tokens.new }
     {
         self.enter(tokens)?;
-        tokens.mark(Terminal::OpenBracket)?;
-        if tokens.sees(Terminal::CloseBracket) {
-            tokens.mark(Terminal::CloseBracket)?;
+        tokens.mark(Terminal::Of(Word::OpenBracket))?;
+        if tokens.sees(Terminal::Of(Word::CloseBracket)) {
+            tokens.mark(Terminal::Of(Word::CloseBracket))?;
             let place = named(self.alloc(), name, found)?;
             return Ok(ControlFlow::Break(Operand::Push(place)));
         }
         let at = self.inner(tokens, Part::Whole)?;
-        let (at, _) = both(at, tokens.mark(Terminal::CloseBracket))?;
+        let (at, _) = both(at, tokens.mark(Terminal::Of(Word::CloseBracket)))?;
         Ok(ControlFlow::Continue(with(found, at)?))
     }
 
@@ -48,7 +48,7 @@ impl<R: Inside> Grammar<R> {
     ) -> Result<ControlFlow<Operand, Items<Expression>>, Refusal>
         ensures { Reads (within spec.opening_step self.now name.now found tokens.old) result tokens.new }
     {
-        if tokens.sees(Terminal::OpenBracket) {
+        if tokens.sees(Terminal::Of(Word::OpenBracket)) {
             return self.index_or_push(tokens, name, found);
         }
         let place = named(self.alloc(), name, found)?;

@@ -12,7 +12,7 @@ use crate::nodes::{indexed, tree_of, unary};
 use crate::operand::{Operand, Part};
 use crate::pieces::{Below, Entry, PlaceBelow};
 use crate::token_values::{constant, names_constant, prefix, prefix_in, step, step_in};
-use dp_token_rules::{Refusal, Terminal, Tokens, any_items, some_items};
+use dp_token_rules::{Refusal, Terminal, Tokens, Word, any_items, some_items};
 use dp_tree::{Expression, Item, Order, Place};
 use dp_value::Bytes;
 use std::alloc::Global;
@@ -24,9 +24,9 @@ impl<R: Inside> Grammar<R> {
         ensures { Reads (within spec.group self.now tokens.old) result tokens.new }
     {
         self.enter(tokens)?;
-        tokens.mark(Terminal::OpenParenthesis)?;
+        tokens.mark(Terminal::Of(Word::OpenParenthesis))?;
         let within = self.inner(tokens, Part::Whole)?;
-        let (within, _) = both(within, tokens.mark(Terminal::CloseParenthesis))?;
+        let (within, _) = both(within, tokens.mark(Terminal::Of(Word::CloseParenthesis)))?;
         Ok(within)
     }
 
@@ -36,13 +36,13 @@ impl<R: Inside> Grammar<R> {
         requires { 0 < self.now }
         ensures { Reads (within spec.item_rest self.now first tokens.old) result tokens.new }
     {
-        if !tokens.sees(Terminal::Arrow) {
+        if !tokens.sees(Terminal::Of(Word::Arrow)) {
             return Ok(Item {
                 key: None,
                 value: first,
             });
         }
-        let (first, _) = both(first, tokens.mark(Terminal::Arrow))?;
+        let (first, _) = both(first, tokens.mark(Terminal::Of(Word::Arrow)))?;
         let (first, value) = both(first, self.inner(tokens, Part::Whole))?;
         Ok(Item {
             key: Some(first),
@@ -66,9 +66,14 @@ impl<R: Inside> Grammar<R> {
         ensures { Reads (within spec.literal self.now tokens.old) result tokens.new }
     {
         self.enter(tokens)?;
-        tokens.mark(Terminal::OpenBracket)?;
+        tokens.mark(Terminal::Of(Word::OpenBracket))?;
         let entry = Entry { grammar: self };
-        let items = any_items(self.alloc(), tokens, Terminal::CloseBracket, &entry)?;
+        let items = any_items(
+            self.alloc(),
+            tokens,
+            Terminal::Of(Word::CloseBracket),
+            &entry,
+        )?;
         Ok(Expression::Array(items))
     }
 
@@ -78,10 +83,15 @@ impl<R: Inside> Grammar<R> {
         ensures { Reads (within spec.array_call self.now tokens.old) result tokens.new }
     {
         self.enter(tokens)?;
-        tokens.mark(Terminal::Array)?;
-        tokens.mark(Terminal::OpenParenthesis)?;
+        tokens.mark(Terminal::Of(Word::Array))?;
+        tokens.mark(Terminal::Of(Word::OpenParenthesis))?;
         let entry = Entry { grammar: self };
-        let items = any_items(self.alloc(), tokens, Terminal::CloseParenthesis, &entry)?;
+        let items = any_items(
+            self.alloc(),
+            tokens,
+            Terminal::Of(Word::CloseParenthesis),
+            &entry,
+        )?;
         Ok(Expression::Array(items))
     }
 
@@ -91,12 +101,17 @@ impl<R: Inside> Grammar<R> {
         ensures { Reads (within spec.call self.now name tokens.old) result tokens.new }
     {
         self.enter(tokens)?;
-        tokens.mark(Terminal::OpenParenthesis)?;
+        tokens.mark(Terminal::Of(Word::OpenParenthesis))?;
         let argument = Below {
             grammar: self,
             part: Part::Whole,
         };
-        let arguments = any_items(self.alloc(), tokens, Terminal::CloseParenthesis, &argument)?;
+        let arguments = any_items(
+            self.alloc(),
+            tokens,
+            Terminal::Of(Word::CloseParenthesis),
+            &argument,
+        )?;
         Ok(Expression::Call(name, arguments))
     }
 
@@ -105,7 +120,7 @@ impl<R: Inside> Grammar<R> {
     fn behind_name(&self, tokens: &mut Tokens<'_>, name: Bytes) -> Result<Expression, Refusal>
         ensures { Reads (within spec.behind_name self.now name tokens.old) result tokens.new }
     {
-        if tokens.sees(Terminal::OpenParenthesis) {
+        if tokens.sees(Terminal::Of(Word::OpenParenthesis)) {
             self.call(tokens, name)
         } else {
             Ok(Expression::Constant(name))
@@ -127,10 +142,15 @@ impl<R: Inside> Grammar<R> {
         ensures { Reads (within spec.isset self.now tokens.old) result tokens.new }
     {
         self.enter(tokens)?;
-        tokens.mark(Terminal::Isset)?;
-        tokens.mark(Terminal::OpenParenthesis)?;
+        tokens.mark(Terminal::Of(Word::Isset))?;
+        tokens.mark(Terminal::Of(Word::OpenParenthesis))?;
         let place = PlaceBelow { grammar: self };
-        let places = some_items(self.alloc(), tokens, Terminal::CloseParenthesis, &place)?;
+        let places = some_items(
+            self.alloc(),
+            tokens,
+            Terminal::Of(Word::CloseParenthesis),
+            &place,
+        )?;
         Ok(Expression::Isset(places))
     }
 
@@ -145,13 +165,13 @@ impl<R: Inside> Grammar<R> {
         if names_constant(tokens.peek()) {
             return constant(tokens);
         }
-        if tokens.sees(Terminal::OpenParenthesis) {
+        if tokens.sees(Terminal::Of(Word::OpenParenthesis)) {
             return self.group(tokens);
         }
-        if tokens.sees(Terminal::OpenBracket) {
+        if tokens.sees(Terminal::Of(Word::OpenBracket)) {
             return self.literal(tokens);
         }
-        if tokens.sees(Terminal::Array) {
+        if tokens.sees(Terminal::Of(Word::Array)) {
             return self.array_call(tokens);
         }
         if tokens.sees(Terminal::Name) {
@@ -196,7 +216,7 @@ impl<R: Inside> Grammar<R> {
         if tokens.sees(Terminal::Number) {
             return Ok(Expression::Number(tokens.number()?));
         }
-        if tokens.sees(Terminal::Isset) {
+        if tokens.sees(Terminal::Of(Word::Isset)) {
             return self.isset(tokens);
         }
         let base = self.primary(tokens)?;

@@ -10,7 +10,7 @@ use crate::inside::Inside;
 use crate::kept::both;
 use crate::operand::Part;
 use crate::pieces::{Below, Index};
-use dp_token_rules::{Refusal, Terminal, Tokens, many};
+use dp_token_rules::{Refusal, Terminal, Tokens, Word, many};
 use dp_tree::{Expression, Place};
 use dp_value::Items;
 use std::alloc::Global;
@@ -22,9 +22,9 @@ impl<R: Inside> Grammar<R> {
         ensures { Reads (within spec.index self.now tokens.old) result tokens.new }
     {
         self.enter(tokens)?;
-        tokens.mark(Terminal::OpenBracket)?;
+        tokens.mark(Terminal::Of(Word::OpenBracket))?;
         let at = self.inner(tokens, Part::Whole)?;
-        let (at, _) = both(at, tokens.mark(Terminal::CloseBracket))?;
+        let (at, _) = both(at, tokens.mark(Terminal::Of(Word::CloseBracket)))?;
         Ok(at)
     }
 
@@ -36,7 +36,7 @@ impl<R: Inside> Grammar<R> {
         many(
             self.alloc(),
             tokens,
-            Terminal::OpenBracket,
+            Terminal::Of(Word::OpenBracket),
             &Index { grammar: self },
         )
     }
@@ -61,7 +61,7 @@ impl<R: Inside> Grammar<R> {
         let indices = many(
             self.alloc(),
             tokens,
-            Terminal::OpenBracket,
+            Terminal::Of(Word::OpenBracket),
             &Below {
                 grammar: self,
                 part: Part::Index,

@@ -8,7 +8,7 @@ ghost use Rattle.dp_token_rules.specs.inner.Input.{Reads};
 
 use crate::operand::Assignment;
 use crate::rank::Rank;
-use dp_token_rules::{Refusal, Terminal, Tokens};
+use dp_token_rules::{Refusal, Terminal, Tokens, Word};
 use dp_tree::{BinaryOp, Expression, Inclusion, Operator, UnaryOp};
 
 /// The operator that stands before its operand.
@@ -16,9 +16,9 @@ pub(crate) fn prefix_in(terminal: Terminal) -> Option<UnaryOp>
     ensures { result ≡ grammar.prefix_in terminal }
 {
     match terminal {
-        Terminal::Bang => Some(UnaryOp::Not),
-        Terminal::Minus => Some(UnaryOp::Minus),
-        Terminal::Plus => Some(UnaryOp::Plus),
+        Terminal::Of(Word::Bang) => Some(UnaryOp::Not),
+        Terminal::Of(Word::Minus) => Some(UnaryOp::Minus),
+        Terminal::Of(Word::Plus) => Some(UnaryOp::Plus),
         _ => None,
     }
 }
@@ -28,8 +28,8 @@ pub(crate) fn step_in(terminal: Terminal) -> Option<UnaryOp>
     ensures { result ≡ grammar.step_in terminal }
 {
     match terminal {
-        Terminal::Increment => Some(UnaryOp::Increment),
-        Terminal::Decrement => Some(UnaryOp::Decrement),
+        Terminal::Of(Word::Increment) => Some(UnaryOp::Increment),
+        Terminal::Of(Word::Decrement) => Some(UnaryOp::Decrement),
         _ => None,
     }
 }
@@ -39,8 +39,8 @@ pub(crate) fn inclusion_in(terminal: Terminal) -> Option<Inclusion>
     ensures { result ≡ grammar.inclusion_in terminal }
 {
     match terminal {
-        Terminal::Include => Some(Inclusion::Include),
-        Terminal::Require => Some(Inclusion::Require),
+        Terminal::Of(Word::Include) => Some(Inclusion::Include),
+        Terminal::Of(Word::Require) => Some(Inclusion::Require),
         _ => None,
     }
 }
@@ -50,13 +50,13 @@ pub(crate) fn assignment_in(terminal: Terminal) -> Option<Assignment>
     ensures { result ≡ grammar.assignment_in terminal }
 {
     match terminal {
-        Terminal::Assign => Some(Assignment::Plain),
-        Terminal::AddAssign => Some(Assignment::Compound(BinaryOp::Add)),
-        Terminal::SubtractAssign => Some(Assignment::Compound(BinaryOp::Sub)),
-        Terminal::MultiplyAssign => Some(Assignment::Compound(BinaryOp::Mul)),
-        Terminal::ConcatAssign => Some(Assignment::Compound(BinaryOp::Concat)),
-        Terminal::RemainderAssign => Some(Assignment::Compound(BinaryOp::Rem)),
-        Terminal::CoalesceAssign => Some(Assignment::Coalesce),
+        Terminal::Of(Word::Assign) => Some(Assignment::Plain),
+        Terminal::Of(Word::AddAssign) => Some(Assignment::Compound(BinaryOp::Add)),
+        Terminal::Of(Word::SubtractAssign) => Some(Assignment::Compound(BinaryOp::Sub)),
+        Terminal::Of(Word::MultiplyAssign) => Some(Assignment::Compound(BinaryOp::Mul)),
+        Terminal::Of(Word::ConcatAssign) => Some(Assignment::Compound(BinaryOp::Concat)),
+        Terminal::Of(Word::RemainderAssign) => Some(Assignment::Compound(BinaryOp::Rem)),
+        Terminal::Of(Word::CoalesceAssign) => Some(Assignment::Coalesce),
         _ => None,
     }
 }
@@ -66,9 +66,9 @@ pub(crate) fn constant_in(terminal: Terminal) -> Option<Expression>
     ensures { result ≡ grammar.constant_in terminal }
 {
     match terminal {
-        Terminal::Null => Some(Expression::Null),
-        Terminal::True => Some(Expression::Bool(true)),
-        Terminal::False => Some(Expression::Bool(false)),
+        Terminal::Of(Word::Null) => Some(Expression::Null),
+        Terminal::Of(Word::True) => Some(Expression::Bool(true)),
+        Terminal::Of(Word::False) => Some(Expression::Bool(false)),
         _ => None,
     }
 }
@@ -77,7 +77,10 @@ pub(crate) fn constant_in(terminal: Terminal) -> Option<Expression>
 pub(crate) fn names_constant(terminal: Terminal) -> bool
     ensures { result ≡ is_some (grammar.constant_in terminal) }
 {
-    matches!(terminal, Terminal::Null | Terminal::True | Terminal::False)
+    matches!(
+        terminal,
+        Terminal::Of(Word::Null) | Terminal::Of(Word::True) | Terminal::Of(Word::False)
+    )
 }
 
 /// The operator of this rank.
@@ -85,22 +88,28 @@ pub(crate) fn operator_in(rank: Rank, terminal: Terminal) -> Option<Operator>
     ensures { result ≡ grammar.operator_in rank terminal }
 {
     match (rank, terminal) {
-        (Rank::Or, Terminal::EitherOf) => Some(Operator::Or),
-        (Rank::And, Terminal::BothOf) => Some(Operator::And),
-        (Rank::Equality, Terminal::Equal) => Some(Operator::Of(BinaryOp::Equal)),
-        (Rank::Equality, Terminal::NotEqual) => Some(Operator::Of(BinaryOp::NotEqual)),
-        (Rank::Equality, Terminal::Identical) => Some(Operator::Of(BinaryOp::Identical)),
-        (Rank::Equality, Terminal::NotIdentical) => Some(Operator::Of(BinaryOp::NotIdentical)),
-        (Rank::Equality, Terminal::Spaceship) => Some(Operator::Of(BinaryOp::Spaceship)),
-        (Rank::Comparison, Terminal::Less) => Some(Operator::Of(BinaryOp::Less)),
-        (Rank::Comparison, Terminal::LessOrEqual) => Some(Operator::Of(BinaryOp::LessEqual)),
-        (Rank::Comparison, Terminal::Greater) => Some(Operator::Of(BinaryOp::Greater)),
-        (Rank::Comparison, Terminal::GreaterOrEqual) => Some(Operator::Of(BinaryOp::GreaterEqual)),
-        (Rank::Concatenation, Terminal::Dot) => Some(Operator::Of(BinaryOp::Concat)),
-        (Rank::Sum, Terminal::Plus) => Some(Operator::Of(BinaryOp::Add)),
-        (Rank::Sum, Terminal::Minus) => Some(Operator::Of(BinaryOp::Sub)),
-        (Rank::Product, Terminal::Star) => Some(Operator::Of(BinaryOp::Mul)),
-        (Rank::Product, Terminal::Percent) => Some(Operator::Of(BinaryOp::Rem)),
+        (Rank::Or, Terminal::Of(Word::EitherOf)) => Some(Operator::Or),
+        (Rank::And, Terminal::Of(Word::BothOf)) => Some(Operator::And),
+        (Rank::Equality, Terminal::Of(Word::Equal)) => Some(Operator::Of(BinaryOp::Equal)),
+        (Rank::Equality, Terminal::Of(Word::NotEqual)) => Some(Operator::Of(BinaryOp::NotEqual)),
+        (Rank::Equality, Terminal::Of(Word::Identical)) => Some(Operator::Of(BinaryOp::Identical)),
+        (Rank::Equality, Terminal::Of(Word::NotIdentical)) => Some(Operator::Of(
+            BinaryOp::NotIdentical,
+        )),
+        (Rank::Equality, Terminal::Of(Word::Spaceship)) => Some(Operator::Of(BinaryOp::Spaceship)),
+        (Rank::Comparison, Terminal::Of(Word::Less)) => Some(Operator::Of(BinaryOp::Less)),
+        (Rank::Comparison, Terminal::Of(Word::LessOrEqual)) => Some(Operator::Of(
+            BinaryOp::LessEqual,
+        )),
+        (Rank::Comparison, Terminal::Of(Word::Greater)) => Some(Operator::Of(BinaryOp::Greater)),
+        (Rank::Comparison, Terminal::Of(Word::GreaterOrEqual)) => Some(Operator::Of(
+            BinaryOp::GreaterEqual,
+        )),
+        (Rank::Concatenation, Terminal::Of(Word::Dot)) => Some(Operator::Of(BinaryOp::Concat)),
+        (Rank::Sum, Terminal::Of(Word::Plus)) => Some(Operator::Of(BinaryOp::Add)),
+        (Rank::Sum, Terminal::Of(Word::Minus)) => Some(Operator::Of(BinaryOp::Sub)),
+        (Rank::Product, Terminal::Of(Word::Star)) => Some(Operator::Of(BinaryOp::Mul)),
+        (Rank::Product, Terminal::Of(Word::Percent)) => Some(Operator::Of(BinaryOp::Rem)),
         _ => None,
     }
 }
@@ -122,20 +131,20 @@ pub(crate) fn begins_expression(terminal: Terminal) -> bool
             | Terminal::Name
             | Terminal::Number
             | Terminal::Text
-            | Terminal::Null
-            | Terminal::True
-            | Terminal::False
-            | Terminal::Array
-            | Terminal::Isset
-            | Terminal::Include
-            | Terminal::Require
-            | Terminal::OpenParenthesis
-            | Terminal::OpenBracket
-            | Terminal::Bang
-            | Terminal::Minus
-            | Terminal::Plus
-            | Terminal::Increment
-            | Terminal::Decrement
+            | Terminal::Of(Word::Null)
+            | Terminal::Of(Word::True)
+            | Terminal::Of(Word::False)
+            | Terminal::Of(Word::Array)
+            | Terminal::Of(Word::Isset)
+            | Terminal::Of(Word::Include)
+            | Terminal::Of(Word::Require)
+            | Terminal::Of(Word::OpenParenthesis)
+            | Terminal::Of(Word::OpenBracket)
+            | Terminal::Of(Word::Bang)
+            | Terminal::Of(Word::Minus)
+            | Terminal::Of(Word::Plus)
+            | Terminal::Of(Word::Increment)
+            | Terminal::Of(Word::Decrement)
     )
 }
 

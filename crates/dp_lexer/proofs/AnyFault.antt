@@ -4,8 +4,8 @@ use Rattle.std.proofs.Math.Seq.{drop-append_seam}
 use Rattle.std.proofs.lemmas.Bool.Decides.{nat_tests}
 use Rattle.dp_lexer.specs.declared.class.Class.{Class}
 use Rattle.dp_lexer.specs.declared.class.Class.TheVariants as class
-use Rattle.dp_lexer.specs.declared.token.TokenKind.{TokenKind}
-use Rattle.dp_lexer.specs.declared.token.TokenKind.TheVariants as kind
+use Rattle.dp_lexer.specs.declared.token.Word.{Word}
+use Rattle.dp_lexer.specs.declared.token.Word.TheVariants as word
 use Rattle.dp_lexer.specs.declared.fault.Fault.{Fault}
 use Rattle.dp_lexer.specs.declared.fault.Fault.TheVariants as fault
 use Rattle.dp_lexer.specs.Bytes.{is_digit, is_start, is_part, runs_on, begins}
@@ -56,17 +56,17 @@ stray_dollar b t is none = go (begins is_start t) refl
         (λ i. sym is i ∷ sym h.2 i))
     go false e = refl
 
-stray_single_operator : (b : ℕ) (t : List ℕ) → NoPiece b t → (o : Option TokenKind) → one_byte b ≡ o
+stray_single_operator : (b : ℕ) (t : List ℕ) → NoPiece b t → (o : Option Word) → one_byte b ≡ o
     → single_operator o b t ≡ bad
 stray_single_operator b t none None e = refl
 stray_single_operator b t none (Some k) e = absurd (none (operator k) (b ∷ []) t e refl)
 
-stray_double_operator : (b c : ℕ) (t : List ℕ) → NoPiece b (c ∷ t) → (o : Option TokenKind) → two_bytes b c ≡ o
+stray_double_operator : (b c : ℕ) (t : List ℕ) → NoPiece b (c ∷ t) → (o : Option Word) → two_bytes b c ≡ o
     → double_operator o b (c ∷ t) ≡ bad
 stray_double_operator b c t none None e = stray_single_operator b (c ∷ t) none (one_byte b) refl
 stray_double_operator b c t none (Some k) e = absurd (none (operator k) (b ∷ c ∷ []) t e refl)
 
-stray_triple_operator : (b c d : ℕ) (t : List ℕ) → NoPiece b (c ∷ d ∷ t) → (o : Option TokenKind)
+stray_triple_operator : (b c d : ℕ) (t : List ℕ) → NoPiece b (c ∷ d ∷ t) → (o : Option Word)
     → three_bytes b c d ≡ o → triple_operator o b c (d ∷ t) ≡ bad
 stray_triple_operator b c d t none None e = stray_double_operator b c (d ∷ t) none (two_bytes b c) refl
 stray_triple_operator b c d t none (Some k) e = absurd (none (operator k) (b ∷ c ∷ d ∷ []) t e refl)
@@ -112,8 +112,8 @@ closing_tag_answered (d ∷ t) = at_class 63 (62 ∷ d ∷ t) class.Other refl
 point_single : (d : ℕ) (t : List ℕ) → is_digit d ≡ true → double_operator (two_bytes 46 d) 46 (d ∷ t) ≡ bad
 point_single d t is =
     let apart : (d == 61) ≡ false = grind (arith, nat_tests) in
-    ap (λ k. double_operator (cond k (Some kind.ConcatAssign) None) 46 (d ∷ t)) apart
-    ∙ ap (λ k. cond k bad (found (operator kind.Dot) 1)) (or_left (is_digit d) false is)
+    ap (λ k. double_operator (cond k (Some word.ConcatAssign) None) 46 (d ∷ t)) apart
+    ∙ ap (λ k. cond k bad (found (operator word.Dot) 1)) (or_left (is_digit d) false is)
 
 point_answered : (d : ℕ) (t : List ℕ) → is_digit d ≡ true → piece_at (46 ∷ d ∷ t) ≡ bad
 point_answered d [] is = at_class 46 (d ∷ []) class.Other refl ∙ point_single d [] is

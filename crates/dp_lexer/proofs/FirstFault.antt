@@ -2,7 +2,7 @@
 use Rattle.std.proofs.Common.{◌≡◌, ◌≢◌, ◌⊎◌, inl, inr, ℕ, suc, ◌+◌, ◌≤◌, Bool, true, false, ◌&&◌, ◌==◌, List, [], ◌∷◌, ◌++◌, length, take, drop, Option, Some, None, Ok, Err, sym, refl, ap, ◌∙◌, subst, append_assoc, cond, arith, eqb-true, take-append-drop, nat_lt, ltb-true, length-take-le}
 use Rattle.dp_lexer.specs.declared.class.Class.{Class}
 use Rattle.dp_lexer.specs.declared.class.Class.TheVariants as class
-use Rattle.dp_lexer.specs.declared.token.TokenKind.{TokenKind}
+use Rattle.dp_lexer.specs.declared.token.Word.{Word}
 use Rattle.dp_lexer.specs.declared.fault.Fault.{Fault}
 use Rattle.dp_lexer.specs.declared.fault.Fault.TheVariants as fault
 use Rattle.dp_lexer.specs.Bytes.{is_space, is_digit, is_start, is_part, begins_tag, runs_on, begins}
@@ -47,7 +47,7 @@ pub record Idle (b : ℕ) (r : List ℕ) : Type 0 where
   pub dollar : b ≡ 36 → begins is_start r ≡ false
   pub single : b ≢ 39
   pub double : b ≢ 34
-  pub operators : (u more : List ℕ) (k : TokenKind) → operator_of u ≡ Some k → u ++ more ≡ b ∷ r → ⊥
+  pub operators : (u more : List ℕ) (k : Word) → operator_of u ≡ Some k → u ++ more ≡ b ∷ r → ⊥
 
 second_is : (b c x y : ℕ) (q u : List ℕ) → b ∷ c ∷ q ≡ x ∷ y ∷ u → c ≡ y
 second_is b c x y q u e = cc
@@ -98,7 +98,7 @@ is_stray b r idle =
 
 -- no operator begins with a byte of another class
 no_operator : (b : ℕ) (r : List ℕ) (c : Class) → class_of b ≡ c → (c ≡ class.Other → ⊥)
-    → (u more : List ℕ) (k : TokenKind) → operator_of u ≡ Some k → u ++ more ≡ b ∷ r → ⊥
+    → (u more : List ℕ) (k : Word) → operator_of u ≡ Some k → u ++ more ≡ b ∷ r → ⊥
 no_operator b r c is apart u more k e same =
     let h = operator_first u k e in
     apart (sym is ∙ ap class_of (head_is b r u more h.1 h.0 h.2 same) ∙ h.3)
@@ -131,7 +131,7 @@ idle_dollar b r is start = record {
 }
 
 idle_other : (b : ℕ) (r : List ℕ) → OtherByte b
-    → ((u more : List ℕ) (k : TokenKind) → operator_of u ≡ Some k → u ++ more ≡ b ∷ r → ⊥) → Idle b r
+    → ((u more : List ℕ) (k : Word) → operator_of u ≡ Some k → u ++ more ≡ b ∷ r → ⊥) → Idle b r
 idle_other b r h none = record {
   start = h.start;
   digit = h.digit;
@@ -331,7 +331,7 @@ wrong_quote b r f d (inr is) e =
 
 -- ---- operators
 
-clash_kind : (o : Option TokenKind) (k : TokenKind) → o ≡ Some k → o ≡ None → ⊥
+clash_kind : (o : Option Word) (k : Word) → o ≡ Some k → o ≡ None → ⊥
 clash_kind o k e f = cc
 
 split_is : (b : ℕ) (r : List ℕ) → is_split b r ≡ true → IsFault (b ∷ r) fault.BadByte 0
@@ -349,7 +349,7 @@ split_is b r e = go (or_parts (b == 46 && begins is_digit r) (b == 63 && begins 
 
 -- where no operator is found none is spelled
 abbrev None_at : ℕ → List ℕ → Type 0
-None_at b r = (u more : List ℕ) (k : TokenKind) → operator_of u ≡ Some k → u ++ more ≡ b ∷ r → ⊥
+None_at b r = (u more : List ℕ) (k : Word) → operator_of u ≡ Some k → u ++ more ≡ b ∷ r → ⊥
 
 third_is : (b c d x y z : ℕ) (q u : List ℕ) → b ∷ c ∷ d ∷ q ≡ x ∷ y ∷ z ∷ u → d ≡ z
 third_is b c d x y z q u e = cc
@@ -383,7 +383,7 @@ none_three b c d r e f g (x ∷ y ∷ z ∷ []) more k h same =
     (sym (second_is x y b c (z ∷ more) (d ∷ r) same) i) (sym (third_is x y z b c d more r same) i)) ∙ h) g
 none_three b c d r e f g (x ∷ y ∷ z ∷ w ∷ t) more k h same = cc
 
-wrong_single_operator : (b : ℕ) (r : List ℕ) (f : Fault) (d : ℕ) → OtherByte b → (o : Option TokenKind) → one_byte b ≡ o
+wrong_single_operator : (b : ℕ) (r : List ℕ) (f : Fault) (d : ℕ) → OtherByte b → (o : Option Word) → one_byte b ≡ o
     → (one_byte b ≡ None → None_at b r) → single_operator o b r ≡ wrong f d → IsFault (b ∷ r) f d
 wrong_single_operator b r f d h None t none e =
     as_wrong (b ∷ r) f fault.BadByte d 0 e (is_stray b r (idle_other b r h (none t)))
@@ -393,14 +393,14 @@ wrong_single_operator b r f d h (Some k) t none e = go (is_split b r) refl e
     go true g e = as_wrong (b ∷ r) f fault.BadByte d 0 e (split_is b r g)
     go false g e = absurd (not_found _ _ f d e)
 
-wrong_double_operator : (b c : ℕ) (t : List ℕ) (f : Fault) (d : ℕ) → OtherByte b → (o : Option TokenKind)
+wrong_double_operator : (b c : ℕ) (t : List ℕ) (f : Fault) (d : ℕ) → OtherByte b → (o : Option Word)
     → two_bytes b c ≡ o → (one_byte b ≡ None → two_bytes b c ≡ None → None_at b (c ∷ t))
     → double_operator o b (c ∷ t) ≡ wrong f d → IsFault (b ∷ c ∷ t) f d
 wrong_double_operator b c t f d h None g none e =
     wrong_single_operator b (c ∷ t) f d h (one_byte b) refl (λ one. none one g) e
 wrong_double_operator b c t f d h (Some k) g none e = absurd (not_found _ _ f d e)
 
-wrong_triple_operator : (b c x : ℕ) (t : List ℕ) (f : Fault) (d : ℕ) → OtherByte b → (o : Option TokenKind)
+wrong_triple_operator : (b c x : ℕ) (t : List ℕ) (f : Fault) (d : ℕ) → OtherByte b → (o : Option Word)
     → three_bytes b c x ≡ o → triple_operator o b c (x ∷ t) ≡ wrong f d → IsFault (b ∷ c ∷ x ∷ t) f d
 wrong_triple_operator b c x t f d h None g e =
     wrong_double_operator b c (x ∷ t) f d h (two_bytes b c) refl (λ one two. none_three b c x t one two g) e

@@ -3,7 +3,7 @@ use Rattle.std.proofs.Common.{◌≡◌, ◌≢◌, ◌⊎◌, inl, inr, ℕ, Bo
 use Rattle.std.proofs.lemmas.Bool.Decides.{nat_tests}
 use Rattle.dp_lexer.specs.declared.class.Class.{Class}
 use Rattle.dp_lexer.specs.declared.class.Class.TheVariants as class
-use Rattle.dp_lexer.specs.declared.token.TokenKind.{TokenKind}
+use Rattle.dp_lexer.specs.declared.token.Word.{Word}
 use Rattle.dp_lexer.specs.Bytes.{is_space, is_digit, is_start}
 use Rattle.dp_lexer.specs.Operators.{look_up, look_up_two, look_up_three, one_byte_operators, two_byte_operators, three_byte_operators, one_byte, two_bytes, three_bytes, operator_of}
 use Rattle.dp_lexer.specs.inner.Lexer.{class_of}
@@ -152,19 +152,19 @@ other_is class.Dollar e = absurd (cc)
 other_is class.Quote e = absurd (cc)
 other_is class.Other e = refl
 
-abbrev passes : List (ℕ × TokenKind) → Bool
+abbrev passes : List (ℕ × Word) → Bool
 passes [] = true
 passes (row ∷ rows) = is_other (class_of row.0) && passes rows
 
-abbrev passes_two : List (ℕ × ℕ × TokenKind) → Bool
+abbrev passes_two : List (ℕ × ℕ × Word) → Bool
 passes_two [] = true
 passes_two (row ∷ rows) = is_other (class_of row.0) && passes_two rows
 
-abbrev passes_three : List (ℕ × ℕ × ℕ × TokenKind) → Bool
+abbrev passes_three : List (ℕ × ℕ × ℕ × Word) → Bool
 passes_three [] = true
 passes_three (row ∷ rows) = is_other (class_of row.0) && passes_three rows
 
-look_up-class : (b : ℕ) (rows : List (ℕ × TokenKind)) (k : TokenKind) → passes rows ≡ true → look_up b rows ≡ Some k
+look_up-class : (b : ℕ) (rows : List (ℕ × Word)) (k : Word) → passes rows ≡ true → look_up b rows ≡ Some k
     → class_of b ≡ class.Other
 look_up-class b [] k all e = absurd (cc)
 look_up-class b (row ∷ rows) k all e =
@@ -176,7 +176,7 @@ look_up-class b (row ∷ rows) k all e =
     go ih is true t e = ap class_of (eqb-true b row.0 t) ∙ other_is (class_of row.0) is
     go ih is false t e = ih e
 
-look_up_two-class : (b c : ℕ) (rows : List (ℕ × ℕ × TokenKind)) (k : TokenKind) → passes_two rows ≡ true
+look_up_two-class : (b c : ℕ) (rows : List (ℕ × ℕ × Word)) (k : Word) → passes_two rows ≡ true
     → look_up_two b c rows ≡ Some k → class_of b ≡ class.Other
 look_up_two-class b c [] k all e = absurd (cc)
 look_up_two-class b c (row ∷ rows) k all e =
@@ -191,7 +191,7 @@ look_up_two-class b c (row ∷ rows) k all e =
         ∙ other_is (class_of row.0) is
     go ih is false t e = ih e
 
-look_up_three-class : (b c d : ℕ) (rows : List (ℕ × ℕ × ℕ × TokenKind)) (k : TokenKind) → passes_three rows ≡ true
+look_up_three-class : (b c d : ℕ) (rows : List (ℕ × ℕ × ℕ × Word)) (k : Word) → passes_three rows ≡ true
     → look_up_three b c d rows ≡ Some k → class_of b ≡ class.Other
 look_up_three-class b c d [] k all e = absurd (cc)
 look_up_three-class b c d (row ∷ rows) k all e =
@@ -206,17 +206,17 @@ look_up_three-class b c d (row ∷ rows) k all e =
         (c == row.1) m.0 in ap class_of (eqb-true b row.0 m2.0) ∙ other_is (class_of row.0) is
     go ih is false t e = ih e
 
-pub one_byte-class : (b : ℕ) (k : TokenKind) → one_byte b ≡ Some k → class_of b ≡ class.Other
+pub one_byte-class : (b : ℕ) (k : Word) → one_byte b ≡ Some k → class_of b ≡ class.Other
 one_byte-class b k e = look_up-class b one_byte_operators k refl e
 
-pub two_bytes-class : (b c : ℕ) (k : TokenKind) → two_bytes b c ≡ Some k → class_of b ≡ class.Other
+pub two_bytes-class : (b c : ℕ) (k : Word) → two_bytes b c ≡ Some k → class_of b ≡ class.Other
 two_bytes-class b c k e = look_up_two-class b c two_byte_operators k refl e
 
-pub three_bytes-class : (b c d : ℕ) (k : TokenKind) → three_bytes b c d ≡ Some k → class_of b ≡ class.Other
+pub three_bytes-class : (b c d : ℕ) (k : Word) → three_bytes b c d ≡ Some k → class_of b ≡ class.Other
 three_bytes-class b c d k e = look_up_three-class b c d three_byte_operators k refl e
 
 -- no operator begins with a byte of another class
-pub operator_first : (u : List ℕ) (k : TokenKind) → operator_of u ≡ Some k
+pub operator_first : (u : List ℕ) (k : Word) → operator_of u ≡ Some k
     → (b : ℕ) × (t : List ℕ) × (u ≡ b ∷ t) × (class_of b ≡ class.Other)
 operator_first [] k e = absurd (cc)
 operator_first (b ∷ []) k e = (b, [], refl, one_byte-class b k e)

@@ -3,7 +3,7 @@ use Rattle.std.proofs.Common.{◌≡◌, ◌⊎◌, inl, inr, ℕ, zero, suc, �
 use Rattle.std.proofs.Math.Seq.{take-append_seam, drop-append_seam}
 use Rattle.dp_lexer.specs.declared.class.Class.{Class}
 use Rattle.dp_lexer.specs.declared.class.Class.TheVariants as class
-use Rattle.dp_lexer.specs.declared.token.TokenKind.{TokenKind}
+use Rattle.dp_lexer.specs.declared.token.Word.{Word}
 use Rattle.dp_lexer.specs.declared.fault.Fault.TheVariants as fault
 use Rattle.dp_lexer.specs.Bytes.{is_digit, is_start, is_part, is_in_line, begins_tag, runs_on, begins, Each}
 use Rattle.dp_lexer.specs.Quotes.{IsBody, enclosed, single_value, IsDoubled}
@@ -302,7 +302,7 @@ at_double body v u more is h value =
 
 -- ---- operators
 
-split_not : (k : TokenKind) (b : ℕ) (more : List ℕ) → IsNext (operator k) (b ∷ []) more → is_split b more ≡ true → ⊥
+split_not : (k : Word) (b : ℕ) (more : List ℕ) → IsNext (operator k) (b ∷ []) more → is_split b more ≡ true → ⊥
 split_not k b more next e = go (or_parts (b == 46 && begins is_digit more) (b == 63 && begins (λ c. c == 62) more) e)
   where
     go : ((b == 46 && begins is_digit more) ≡ true) ⊎ ((b == 63 && begins (λ c. c == 62) more) ≡ true) → ⊥
@@ -313,7 +313,7 @@ split_not k b more next e = go (or_parts (b == 46 && begins is_digit more) (b ==
         let m = and_parts (b == 63) (begins (λ c. c == 62) more) h in not_false (begins (λ c. c == 62) more) m.1
         (next.allowed.1 (ap (λ x. x ∷ []) (eqb-true b 63 m.0)))
 
-at_single_operator : (k : TokenKind) (b : ℕ) (more : List ℕ) → one_byte b ≡ Some k
+at_single_operator : (k : Word) (b : ℕ) (more : List ℕ) → one_byte b ≡ Some k
     → AtPiece (operator k) (b ∷ []) more (single_operator (one_byte b) b more)
 at_single_operator k b more e =
     subst (λ o. AtPiece (operator k) (b ∷ []) more (single_operator o b more)) (sym e) (go (is_split b more) refl)
@@ -322,40 +322,40 @@ at_single_operator k b more e =
     go true f = λ next. split_not k b more next f
     go false f = (omega arith, λ same. refl)
 
-at_double_operator : (k : TokenKind) (b : ℕ) (more : List ℕ) (o : Option TokenKind) → one_byte b ≡ Some k
+at_double_operator : (k : Word) (b : ℕ) (more : List ℕ) (o : Option Word) → one_byte b ≡ Some k
     → AtPiece (operator k) (b ∷ []) more (double_operator o b more)
 at_double_operator k b more None e = at_single_operator k b more e
 at_double_operator k b more (Some j) e = (omega arith, λ same. absurd (omega arith))
 
-at_one_byte : (k : TokenKind) (b : ℕ) (more : List ℕ) → one_byte b ≡ Some k
+at_one_byte : (k : Word) (b : ℕ) (more : List ℕ) → one_byte b ≡ Some k
     → AtPiece (operator k) (b ∷ []) more (operator_at b more)
 at_one_byte k b [] e = at_single_operator k b [] e
 at_one_byte k b (c ∷ []) e = at_double_operator k b (c ∷ []) (two_bytes b c) e
 at_one_byte k b (c ∷ d ∷ t) e = go (three_bytes b c d)
   where
-    go : (o : Option TokenKind) → AtPiece (operator k) (b ∷ []) (c ∷ d ∷ t) (triple_operator o b c (d ∷ t))
+    go : (o : Option Word) → AtPiece (operator k) (b ∷ []) (c ∷ d ∷ t) (triple_operator o b c (d ∷ t))
     go None = at_double_operator k b (c ∷ d ∷ t) (two_bytes b c) e
     go (Some j) = (omega arith, λ same. absurd (omega arith))
 
-at_two_bytes : (k : TokenKind) (b c : ℕ) (more : List ℕ) → two_bytes b c ≡ Some k
+at_two_bytes : (k : Word) (b c : ℕ) (more : List ℕ) → two_bytes b c ≡ Some k
     → AtPiece (operator k) (b ∷ c ∷ []) more (operator_at b (c ∷ more))
 at_two_bytes k b c [] e =
     subst (λ o. AtPiece (operator k) (b ∷ c ∷ []) [] (double_operator o b (c ∷ []))) (sym e) (omega arith, λ same. refl)
 at_two_bytes k b c (d ∷ t) e = go (three_bytes b c d)
   where
-    go : (o : Option TokenKind) → AtPiece (operator k) (b ∷ c ∷ []) (d ∷ t) (triple_operator o b c (d ∷ t))
+    go : (o : Option Word) → AtPiece (operator k) (b ∷ c ∷ []) (d ∷ t) (triple_operator o b c (d ∷ t))
     go None =
         subst (λ o. AtPiece (operator k) (b ∷ c ∷ []) (d ∷ t) (double_operator o b (c ∷ d ∷ t))) (sym e)
         (omega arith, λ same. refl)
     go (Some j) = (omega arith, λ same. absurd (omega arith))
 
-at_three_bytes : (k : TokenKind) (b c d : ℕ) (more : List ℕ) → three_bytes b c d ≡ Some k
+at_three_bytes : (k : Word) (b c d : ℕ) (more : List ℕ) → three_bytes b c d ≡ Some k
     → AtPiece (operator k) (b ∷ c ∷ d ∷ []) more (operator_at b (c ∷ d ∷ more))
 at_three_bytes k b c d more e =
     subst (λ o. AtPiece (operator k) (b ∷ c ∷ d ∷ []) more (triple_operator o b c (d ∷ more))) (sym e)
     (omega arith, λ same. refl)
 
-at_operator : (k : TokenKind) (u more : List ℕ) → operator_of u ≡ Some k
+at_operator : (k : Word) (u more : List ℕ) → operator_of u ≡ Some k
     → AtPiece (operator k) u more (piece_at (u ++ more))
 at_operator k [] more e = absurd (cc)
 at_operator k (b ∷ []) more e =

@@ -3,7 +3,7 @@ use Rattle.std.proofs.Common.{◌≡◌, ◌⊎◌, inl, inr, ℕ, suc, ◌+◌,
 use Rattle.std.proofs.Math.Seq.{take-append_seam}
 use Rattle.dp_lexer.specs.declared.class.Class.{Class}
 use Rattle.dp_lexer.specs.declared.class.Class.TheVariants as class
-use Rattle.dp_lexer.specs.declared.token.TokenKind.{TokenKind}
+use Rattle.dp_lexer.specs.declared.token.Word.{Word}
 use Rattle.dp_lexer.specs.declared.fault.Fault.{Fault}
 use Rattle.dp_lexer.specs.declared.fault.Fault.TheVariants as fault
 use Rattle.dp_lexer.specs.Bytes.{is_digit, is_start, is_part, is_in_line, begins_tag, runs_on, begins}
@@ -205,7 +205,7 @@ there_quote b r x (inr is) e =
     there_double b r x is (body_len 34 r) refl (sym (ap (λ k. cond k (single_of (body_len 39 r) r)
     (double_of (body_len 34 r) r)) (other_test b 39 (not_both b 34 39 is refl))) ∙ e)
 
-there_single_operator : (b : ℕ) (r : List ℕ) (x : Piece × ℕ) (o : Option TokenKind) → one_byte b ≡ o
+there_single_operator : (b : ℕ) (r : List ℕ) (x : Piece × ℕ) (o : Option Word) → one_byte b ≡ o
     → single_operator o b r ≡ Ok x → PieceThere (b ∷ r) x.0 x.1
 there_single_operator b r x None t e = absurd (not_wrong fault.BadByte 0 x e)
 there_single_operator b r x (Some k) t e = go (is_split b r) refl e
@@ -227,7 +227,7 @@ there_single_operator b r x (Some k) t e = go (is_split b r) refl e
 longer_text : (b c x : ℕ) (t : List ℕ) → b ∷ c ∷ t ≡ x ∷ [] → ⊥
 longer_text b c x t e = cc
 
-there_double_operator : (b c : ℕ) (t : List ℕ) (x : Piece × ℕ) (o : Option TokenKind) → two_bytes b c ≡ o
+there_double_operator : (b c : ℕ) (t : List ℕ) (x : Piece × ℕ) (o : Option Word) → two_bytes b c ≡ o
     → double_operator o b (c ∷ t) ≡ Ok x → PieceThere (b ∷ c ∷ t) x.0 x.1
 there_double_operator b c t x None f e = there_single_operator b (c ∷ t) x (one_byte b) refl e
 there_double_operator b c t x (Some k) f e =
@@ -242,7 +242,7 @@ there_double_operator b c t x (Some k) f e =
       within = omega arith;
     })
 
-there_triple_operator : (b c d : ℕ) (t : List ℕ) (x : Piece × ℕ) (o : Option TokenKind) → three_bytes b c d ≡ o
+there_triple_operator : (b c d : ℕ) (t : List ℕ) (x : Piece × ℕ) (o : Option Word) → three_bytes b c d ≡ o
     → triple_operator o b c (d ∷ t) ≡ Ok x → PieceThere (b ∷ c ∷ d ∷ t) x.0 x.1
 there_triple_operator b c d t x None f e = there_double_operator b c (d ∷ t) x (two_bytes b c) refl e
 there_triple_operator b c d t x (Some k) f e =

@@ -5,38 +5,40 @@ use Rattle.std.specs.Option.{option_or}
 use Rattle.std.specs.Str.{str_eq_ignore_ascii_case}
 use Rattle.dp_lexer.specs.declared.token.TokenKind.{TokenKind}
 use Rattle.dp_lexer.specs.declared.token.TokenKind.TheVariants as kind
+use Rattle.dp_lexer.specs.declared.token.Word.{Word}
+use Rattle.dp_lexer.specs.declared.token.Word.TheVariants as word
 
-abbrev pub look_up_word : List ℕ → List (List ℕ × TokenKind) → Option TokenKind
+abbrev pub look_up_word : List ℕ → List (List ℕ × Word) → Option Word
 look_up_word name [] = None
 look_up_word name (row ∷ rows) =
     if str_eq_ignore_ascii_case name row.0 then Some row.1 else look_up_word name rows
 
 -- the keywords that begin or join statements
-abbrev pub statement_words : List (List ℕ × TokenKind)
+abbrev pub statement_words : List (List ℕ × Word)
 statement_words =
-    (codes "as", kind.As) ∷ (codes "break", kind.Break) ∷ (codes "continue", kind.Continue)
-    ∷ (codes "die", kind.Die) ∷ (codes "do", kind.Do) ∷ (codes "echo", kind.Echo)
-    ∷ (codes "else", kind.Else) ∷ (codes "elseif", kind.ElseIf) ∷ (codes "exit", kind.Exit)
-    ∷ (codes "for", kind.For) ∷ (codes "foreach", kind.Foreach) ∷ (codes "function", kind.Function)
-    ∷ (codes "global", kind.Global) ∷ (codes "if", kind.If) ∷ (codes "return", kind.Return)
-    ∷ (codes "unset", kind.Unset) ∷ (codes "while", kind.While) ∷ []
+    (codes "as", word.As) ∷ (codes "break", word.Break) ∷ (codes "continue", word.Continue)
+    ∷ (codes "die", word.Die) ∷ (codes "do", word.Do) ∷ (codes "echo", word.Echo)
+    ∷ (codes "else", word.Else) ∷ (codes "elseif", word.ElseIf) ∷ (codes "exit", word.Exit)
+    ∷ (codes "for", word.For) ∷ (codes "foreach", word.Foreach) ∷ (codes "function", word.Function)
+    ∷ (codes "global", word.Global) ∷ (codes "if", word.If) ∷ (codes "return", word.Return)
+    ∷ (codes "unset", word.Unset) ∷ (codes "while", word.While) ∷ []
 
 -- the keywords of expressions
-abbrev pub expression_words : List (List ℕ × TokenKind)
+abbrev pub expression_words : List (List ℕ × Word)
 expression_words =
-    (codes "array", kind.Array) ∷ (codes "false", kind.False) ∷ (codes "include", kind.Include)
-    ∷ (codes "isset", kind.Isset) ∷ (codes "null", kind.Null) ∷ (codes "require", kind.Require)
-    ∷ (codes "true", kind.True) ∷ []
+    (codes "array", word.Array) ∷ (codes "false", word.False) ∷ (codes "include", word.Include)
+    ∷ (codes "isset", word.Isset) ∷ (codes "null", word.Null) ∷ (codes "require", word.Require)
+    ∷ (codes "true", word.True) ∷ []
 
 -- the keyword that a name is, in any case of letters
-abbrev pub keyword_of : List ℕ → Option TokenKind
+abbrev pub keyword_of : List ℕ → Option Word
 keyword_of name =
     option_or (look_up_word name statement_words) (look_up_word name expression_words)
 
 -- what a name is: a keyword or itself
-abbrev pub name_or : Option TokenKind → List ℕ → TokenKind
+abbrev pub name_or : Option Word → List ℕ → TokenKind
 name_or None name = kind.Name name
-name_or (Some k) name = k
+name_or (Some w) name = kind.Word w
 
 abbrev pub word_of : List ℕ → TokenKind
 word_of name = name_or (keyword_of name) name

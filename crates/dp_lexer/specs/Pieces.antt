@@ -1,7 +1,7 @@
 -- The pieces of a program text: tokens, and what stands between tokens. How each is spelled, and
 -- which comes next.
-use Rattle.std.specs.Prelude.{◌≡◌, ◌⊎◌, ℕ, ◌<◌, ◌≤◌, true, false, ◌==◌, List, [], ◌∷◌, ◌++◌, length, Some}
-use Rattle.dp_lexer.specs.declared.token.TokenKind.{TokenKind}
+use Rattle.std.specs.Prelude.{◌≡◌, ◌⊎◌, ℕ, ◌<◌, ◌≤◌, true, false, ◌==◌, List, [], ◌∷◌, ◌++◌, length, codes, Some}
+use Rattle.dp_lexer.specs.declared.token.Word.{Word}
 use Rattle.dp_lexer.specs.Bytes.{is_space, is_digit, is_hexadecimal, is_start, is_part, is_in_line, begins_tag, runs_on, begins, Each, value_in}
 use Rattle.dp_lexer.specs.Quotes.{IsBody, enclosed, single_value, IsDoubled}
 use Rattle.dp_lexer.specs.Operators.{operator_of}
@@ -14,7 +14,7 @@ pub data Piece : Type 0 where
   variable : List ℕ → Piece
   number : ℕ → Piece
   text : List ℕ → Piece
-  operator : TokenKind → Piece
+  operator : Word → Piece
 
 abbrev pub IsName : List ℕ → Type 0
 IsName [] = ⊥
@@ -29,7 +29,7 @@ IsDecimal (b ∷ bs) = (is_digit b ≡ true) × Each is_digit bs × (b ≡ 48 �
 abbrev pub IsNumber : ℕ → List ℕ → Type 0
 IsNumber n t =
     (IsDecimal t × (n ≡ value_in 10 t))
-    ⊎ ((ds : List ℕ) × (t ≡ 48 ∷ 120 ∷ ds) × (0 < length ds) × Each is_hexadecimal ds
+    ⊎ ((ds : List ℕ) × (t ≡ codes "0x" ++ ds) × (0 < length ds) × Each is_hexadecimal ds
     × (n ≡ value_in 16 ds))
 
 -- behind the opening mark of a block comment: up to the first closing mark
@@ -41,7 +41,7 @@ Closes (b ∷ c ∷ t) =
 
 -- the mark of a comment in one line: # before what does not begin with [, or //
 abbrev pub OpensLine : List ℕ → List ℕ → Type 0
-OpensLine t c = ((t ≡ 35 ∷ c) × (begins (λ b. b == 91) c ≡ false)) ⊎ (t ≡ 47 ∷ 47 ∷ c)
+OpensLine t c = ((t ≡ codes "#" ++ c) × (begins (λ b. b == 91) c ≡ false)) ⊎ (t ≡ codes "//" ++ c)
 
 -- behind that mark: no line feed, and no `?>`
 abbrev pub StaysInLine : List ℕ → Type 0
@@ -52,9 +52,9 @@ StaysInLine (b ∷ t) = (is_in_line b ≡ true) × (begins_tag (b ∷ t) ≡ fal
 abbrev pub IsPiece : Piece → List ℕ → Type 0
 IsPiece space t = (b : ℕ) × (t ≡ b ∷ []) × (is_space b ≡ true)
 IsPiece line_comment t = (c : List ℕ) × OpensLine t c × StaysInLine c
-IsPiece block_comment t = (c : List ℕ) × (t ≡ 47 ∷ 42 ∷ c) × Closes c
+IsPiece block_comment t = (c : List ℕ) × (t ≡ codes "/*" ++ c) × Closes c
 IsPiece (name n) t = (t ≡ n) × IsName n
-IsPiece (variable n) t = (t ≡ 36 ∷ n) × IsName n
+IsPiece (variable n) t = (t ≡ codes "$" ++ n) × IsName n
 IsPiece (number n) t = IsNumber n t
 IsPiece (text v) t =
     ((body : List ℕ) × (t ≡ enclosed 39 body) × IsBody 39 body × (v ≡ single_value body))
@@ -80,8 +80,8 @@ IsAllowed (variable n) t rest = length n ≤ longest_name
 IsAllowed (number n) t rest = (n ≤ widest) × (begins runs_on rest ≡ false)
 IsAllowed (text v) t rest = Unit {0}
 IsAllowed (operator k) t rest =
-    (t ≡ 46 ∷ [] → begins is_digit rest ≡ false)
-    × (t ≡ 63 ∷ [] → begins (λ b. b == 62) rest ≡ false)
+    (t ≡ codes "." → begins is_digit rest ≡ false)
+    × (t ≡ codes "?" → begins (λ b. b == 62) rest ≡ false)
 
 -- The piece that comes next: of all that are spelled here the longest, within its limits.
 pub record IsNext (piece : Piece) (t rest : List ℕ) : Type 0 where

@@ -1,5 +1,5 @@
 -- Texts in quotes: where they end, and the bytes that they stand for.
-use Rattle.std.specs.Prelude.{◌≡◌, ◌≢◌, ◌⊎◌, ℕ, ◌<◌, ◌≤◌, ◌%◌, Bool, true, false, not, ◌&&◌, ◌||◌, ◌==◌, if◌then◌else◌, List, [], ◌∷◌, ◌++◌, length, Option, Some, None, is_none}
+use Rattle.std.specs.Prelude.{◌≡◌, ◌≢◌, ◌⊎◌, ℕ, ◌<◌, ◌≤◌, ◌%◌, Bool, true, false, not, ◌&&◌, ◌||◌, ◌==◌, if◌then◌else◌, List, [], ◌∷◌, ◌++◌, length, codes, Option, Some, None, is_none}
 use Rattle.dp_lexer.specs.Bytes.{is_start, is_octal, is_hexadecimal, begins, Each, value_in}
 use Rattle.dp_lexer.specs.Chain.{texts, Come}
 
@@ -64,14 +64,14 @@ stays c rest =
 -- hexadecimal one or two, and takes as many as there are.
 abbrev pub IsPart : Part → List ℕ → List ℕ → Type 0
 IsPart (plain b) t rest = (t ≡ b ∷ []) × (b ≢ 92) × (interpolates b rest ≡ false)
-IsPart (letter c m) t rest = (t ≡ 92 ∷ c ∷ []) × (letter_of c ≡ Some m)
+IsPart (letter c m) t rest = (t ≡ codes "\\" ++ c ∷ []) × (letter_of c ≡ Some m)
 IsPart (octal ds) t rest =
-    (t ≡ 92 ∷ ds) × Each is_octal ds × (1 ≤ length ds) × (length ds ≤ 3)
+    (t ≡ codes "\\" ++ ds) × Each is_octal ds × (1 ≤ length ds) × (length ds ≤ 3)
     × (length ds < 3 → begins is_octal rest ≡ false)
 IsPart (hexadecimal ds) t rest =
-    (t ≡ 92 ∷ 120 ∷ ds) × Each is_hexadecimal ds × (1 ≤ length ds) × (length ds ≤ 2)
+    (t ≡ codes "\\x" ++ ds) × Each is_hexadecimal ds × (1 ≤ length ds) × (length ds ≤ 2)
     × (length ds < 2 → begins is_hexadecimal rest ≡ false)
-IsPart (pair c) t rest = (t ≡ 92 ∷ c ∷ []) × (stays c rest ≡ true)
+IsPart (pair c) t rest = (t ≡ codes "\\" ++ c ∷ []) × (stays c rest ≡ true)
 
 -- the bytes that a part stands for; a number is taken modulo 256
 abbrev pub meaning : Part → List ℕ
@@ -79,7 +79,7 @@ meaning (plain b) = b ∷ []
 meaning (letter c m) = m ∷ []
 meaning (octal ds) = (value_in 8 ds % 256) ∷ []
 meaning (hexadecimal ds) = (value_in 16 ds % 256) ∷ []
-meaning (pair c) = 92 ∷ c ∷ []
+meaning (pair c) = codes "\\" ++ c ∷ []
 
 abbrev pub Parts : Type 0
 Parts = List (Part × List ℕ)

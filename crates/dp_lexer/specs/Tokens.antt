@@ -25,7 +25,7 @@ kind_of (name n) = Some (word_of n)
 kind_of (variable n) = Some (kind.Variable n)
 kind_of (number n) = Some (kind.Number (pos n))
 kind_of (text v) = Some (kind.Text v)
-kind_of (operator k) = Some k
+kind_of (operator w) = Some (kind.Word w)
 
 -- how many line feeds there are
 abbrev pub feeds : List ℕ → ℕ
@@ -62,22 +62,22 @@ pub record IsLongestNumber (n : ℕ) (t rest : List ℕ) : Type 0 where
 pub data IsBadByte (rest : List ℕ) (at : ℕ) : Type 0 where
   -- no piece begins here, and neither an open text nor an open comment
   stray : (b : ℕ) (t : List ℕ) → at ≡ 0 → rest ≡ b ∷ t → b ≢ 39 → b ≢ 34
-      → ((q : List ℕ) → rest ≡ 47 ∷ 42 ∷ q → ⊥)
+      → ((q : List ℕ) → rest ≡ codes "/*" ++ q → ⊥)
       → ((piece : Piece) (u more : List ℕ) → IsPiece piece u → u ++ more ≡ rest → ⊥)
       → IsBadByte rest at
   -- # before [
-  attribute : (t : List ℕ) → at ≡ 0 → rest ≡ 35 ∷ 91 ∷ t → IsBadByte rest at
+  attribute : (t : List ℕ) → at ≡ 0 → rest ≡ codes "#[" ++ t → IsBadByte rest at
   -- ? before >
-  closing_tag : (t : List ℕ) → at ≡ 0 → rest ≡ 63 ∷ 62 ∷ t → IsBadByte rest at
+  closing_tag : (t : List ℕ) → at ≡ 0 → rest ≡ codes "?>" ++ t → IsBadByte rest at
   -- a point before a digit
-  point : (d : ℕ) (t : List ℕ) → at ≡ 0 → rest ≡ 46 ∷ d ∷ t → is_digit d ≡ true → IsBadByte rest at
+  point : (d : ℕ) (t : List ℕ) → at ≡ 0 → rest ≡ codes "." ++ d ∷ t → is_digit d ≡ true → IsBadByte rest at
   -- a digit, a letter, an underscore or a point directly behind a number
   behind_number : (n b : ℕ) (t more : List ℕ) → at ≡ length t → rest ≡ t ++ b ∷ more
       → IsLongestNumber n t (b ∷ more) → runs_on b ≡ true → IsBadByte rest at
   -- the first byte of a name past the longest
   long_name : (n more : List ℕ) → at ≡ longest_name → rest ≡ n ++ more → IsName n
       → length n ≡ longest_name + 1 → IsBadByte rest at
-  long_variable : (n more : List ℕ) → at ≡ longest_name + 1 → rest ≡ 36 ∷ (n ++ more)
+  long_variable : (n more : List ℕ) → at ≡ longest_name + 1 → rest ≡ codes "$" ++ n ++ more
       → IsName n → length n ≡ longest_name + 1 → IsBadByte rest at
   -- the first ?> in a comment in one line, at its question mark
   comment_tag : (t more : List ℕ) → at ≡ length t → rest ≡ t ++ 63 ∷ 62 ∷ more
@@ -94,7 +94,7 @@ IsFault rest fault.OpenString at =
     (at ≡ 0) × ((quote : ℕ) × (q : List ℕ) × ((quote ≡ 39) ⊎ (quote ≡ 34)) × (rest ≡ quote ∷ q)
     × ((body more : List ℕ) → IsBody quote body → enclosed quote body ++ more ≡ rest → ⊥))
 IsFault rest fault.OpenComment at =
-    (at ≡ 0) × ((q : List ℕ) × (rest ≡ 47 ∷ 42 ∷ q)
+    (at ≡ 0) × ((q : List ℕ) × (rest ≡ codes "/*" ++ q)
     × ((c more : List ℕ) → Closes c → c ++ more ≡ q → ⊥))
 IsFault rest fault.WideNumber at =
     (at ≡ 0) × ((n : ℕ) × (t : List ℕ) × (more : List ℕ) × (rest ≡ t ++ more) × IsNumber n t

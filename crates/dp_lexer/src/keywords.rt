@@ -5,7 +5,7 @@ ghost use Rattle.std.specs.Str.{str_eq_ignore_ascii_case};
 ghost use Rattle.dp_lexer.specs.Keywords as words;
 
 use crate::spelling::Spelling;
-use crate::token::TokenKind;
+use crate::token::{TokenKind, Word};
 use std::alloc::{AllocError, Global};
 
 /// Whether a name is this word, in any case of letters.
@@ -16,77 +16,77 @@ pub(crate) fn is_word(name: &[u8], word: &[u8]) -> bool
 }
 
 /// The keyword of a statement that a name is.
-fn statement_word(name: &[u8]) -> Option<TokenKind>
+fn statement_word(name: &[u8]) -> Option<Word>
     ensures { result ≡ words.look_up_word name.now words.statement_words }
 {
     if is_word(name, b"as") {
-        Some(TokenKind::As)
+        Some(Word::As)
     } else if is_word(name, b"break") {
-        Some(TokenKind::Break)
+        Some(Word::Break)
     } else if is_word(name, b"continue") {
-        Some(TokenKind::Continue)
+        Some(Word::Continue)
     } else if is_word(name, b"die") {
-        Some(TokenKind::Die)
+        Some(Word::Die)
     } else if is_word(name, b"do") {
-        Some(TokenKind::Do)
+        Some(Word::Do)
     } else if is_word(name, b"echo") {
-        Some(TokenKind::Echo)
+        Some(Word::Echo)
     } else if is_word(name, b"else") {
-        Some(TokenKind::Else)
+        Some(Word::Else)
     } else if is_word(name, b"elseif") {
-        Some(TokenKind::ElseIf)
+        Some(Word::ElseIf)
     } else if is_word(name, b"exit") {
-        Some(TokenKind::Exit)
+        Some(Word::Exit)
     } else if is_word(name, b"for") {
-        Some(TokenKind::For)
+        Some(Word::For)
     } else if is_word(name, b"foreach") {
-        Some(TokenKind::Foreach)
+        Some(Word::Foreach)
     } else if is_word(name, b"function") {
-        Some(TokenKind::Function)
+        Some(Word::Function)
     } else if is_word(name, b"global") {
-        Some(TokenKind::Global)
+        Some(Word::Global)
     } else if is_word(name, b"if") {
-        Some(TokenKind::If)
+        Some(Word::If)
     } else if is_word(name, b"return") {
-        Some(TokenKind::Return)
+        Some(Word::Return)
     } else if is_word(name, b"unset") {
-        Some(TokenKind::Unset)
+        Some(Word::Unset)
     } else if is_word(name, b"while") {
-        Some(TokenKind::While)
+        Some(Word::While)
     } else {
         None
     }
 }
 
 /// The keyword of an expression that a name is.
-fn expression_word(name: &[u8]) -> Option<TokenKind>
+fn expression_word(name: &[u8]) -> Option<Word>
     ensures { result ≡ words.look_up_word name.now words.expression_words }
 {
     if is_word(name, b"array") {
-        Some(TokenKind::Array)
+        Some(Word::Array)
     } else if is_word(name, b"false") {
-        Some(TokenKind::False)
+        Some(Word::False)
     } else if is_word(name, b"include") {
-        Some(TokenKind::Include)
+        Some(Word::Include)
     } else if is_word(name, b"isset") {
-        Some(TokenKind::Isset)
+        Some(Word::Isset)
     } else if is_word(name, b"null") {
-        Some(TokenKind::Null)
+        Some(Word::Null)
     } else if is_word(name, b"require") {
-        Some(TokenKind::Require)
+        Some(Word::Require)
     } else if is_word(name, b"true") {
-        Some(TokenKind::True)
+        Some(Word::True)
     } else {
         None
     }
 }
 
 /// The keyword that a name is.
-fn keyword(name: &[u8]) -> Option<TokenKind>
+fn keyword(name: &[u8]) -> Option<Word>
     ensures { result ≡ words.keyword_of name.now }
 {
     match statement_word(name) {
-        Some(kind) => Some(kind),
+        Some(word) => Some(word),
         None => expression_word(name),
     }
 }
@@ -96,7 +96,7 @@ pub(crate) fn is_keyword(name: &[u8]) -> bool
     ensures { result ≡ is_some (words.keyword_of name.now) }
 {
     match keyword(name) {
-        Some(_kind) => true,
+        Some(_word) => true,
         None => false,
     }
 }
@@ -106,7 +106,7 @@ pub(crate) fn word_of(alloc: Global, name: &[u8]) -> Result<TokenKind, AllocErro
     ensures { IfOk result (λ kind. kind ≡ words.word_of name.now) }
 {
     match keyword(name) {
-        Some(kind) => Ok(kind),
+        Some(word) => Ok(TokenKind::Word(word)),
         None => Ok(TokenKind::Name(Spelling::from_slice(alloc, name)?)),
     }
 }

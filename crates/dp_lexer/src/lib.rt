@@ -25,4 +25,4 @@ pub use lexer::{lex, lex_expression, line_feeds};
 pub use names::{NAME_LIMIT, is_given};
 pub use reserved::is_reserved;
 pub use spelling::Spelling;
-pub use token::{Token, TokenKind};
+pub use token::{Token, TokenKind, Word};

@@ -7,69 +7,69 @@ ghost use Rattle.dp_lexer.specs.inner.Lexer.{Finds};
 
 use crate::class::is_digit;
 use crate::fault::{Fault, Wrong};
-use crate::token::TokenKind;
+use crate::token::{TokenKind, Word};
 
 /// The operator that one byte spells.
-fn one_byte(b: u8) -> Option<TokenKind>
+fn one_byte(b: u8) -> Option<Word>
     ensures { result ≡ operators.one_byte b }
 {
     match b {
-        b'=' => Some(TokenKind::Assign),
-        b'<' => Some(TokenKind::Less),
-        b'>' => Some(TokenKind::Greater),
-        b'+' => Some(TokenKind::Plus),
-        b'-' => Some(TokenKind::Minus),
-        b'*' => Some(TokenKind::Star),
-        b'%' => Some(TokenKind::Percent),
-        b'.' => Some(TokenKind::Dot),
-        b'!' => Some(TokenKind::Bang),
-        b'?' => Some(TokenKind::Question),
-        b':' => Some(TokenKind::Colon),
-        b',' => Some(TokenKind::Comma),
-        b';' => Some(TokenKind::Semicolon),
-        b'(' => Some(TokenKind::OpenParenthesis),
-        b')' => Some(TokenKind::CloseParenthesis),
-        b'[' => Some(TokenKind::OpenBracket),
-        b']' => Some(TokenKind::CloseBracket),
-        b'{' => Some(TokenKind::OpenBrace),
-        b'}' => Some(TokenKind::CloseBrace),
+        b'=' => Some(Word::Assign),
+        b'<' => Some(Word::Less),
+        b'>' => Some(Word::Greater),
+        b'+' => Some(Word::Plus),
+        b'-' => Some(Word::Minus),
+        b'*' => Some(Word::Star),
+        b'%' => Some(Word::Percent),
+        b'.' => Some(Word::Dot),
+        b'!' => Some(Word::Bang),
+        b'?' => Some(Word::Question),
+        b':' => Some(Word::Colon),
+        b',' => Some(Word::Comma),
+        b';' => Some(Word::Semicolon),
+        b'(' => Some(Word::OpenParenthesis),
+        b')' => Some(Word::CloseParenthesis),
+        b'[' => Some(Word::OpenBracket),
+        b']' => Some(Word::CloseBracket),
+        b'{' => Some(Word::OpenBrace),
+        b'}' => Some(Word::CloseBrace),
         _ => None,
     }
 }
 
 /// The operator that two bytes spell.
-fn two_bytes(b: u8, c: u8) -> Option<TokenKind>
+fn two_bytes(b: u8, c: u8) -> Option<Word>
     ensures { result ≡ operators.two_bytes b c }
 {
     match (b, c) {
-        (b'=', b'=') => Some(TokenKind::Equal),
-        (b'!', b'=') => Some(TokenKind::NotEqual),
-        (b'<', b'=') => Some(TokenKind::LessOrEqual),
-        (b'>', b'=') => Some(TokenKind::GreaterOrEqual),
-        (b'&', b'&') => Some(TokenKind::BothOf),
-        (b'|', b'|') => Some(TokenKind::EitherOf),
-        (b'?', b'?') => Some(TokenKind::Coalesce),
-        (b'+', b'+') => Some(TokenKind::Increment),
-        (b'-', b'-') => Some(TokenKind::Decrement),
-        (b'+', b'=') => Some(TokenKind::AddAssign),
-        (b'-', b'=') => Some(TokenKind::SubtractAssign),
-        (b'*', b'=') => Some(TokenKind::MultiplyAssign),
-        (b'.', b'=') => Some(TokenKind::ConcatAssign),
-        (b'%', b'=') => Some(TokenKind::RemainderAssign),
-        (b'=', b'>') => Some(TokenKind::Arrow),
+        (b'=', b'=') => Some(Word::Equal),
+        (b'!', b'=') => Some(Word::NotEqual),
+        (b'<', b'=') => Some(Word::LessOrEqual),
+        (b'>', b'=') => Some(Word::GreaterOrEqual),
+        (b'&', b'&') => Some(Word::BothOf),
+        (b'|', b'|') => Some(Word::EitherOf),
+        (b'?', b'?') => Some(Word::Coalesce),
+        (b'+', b'+') => Some(Word::Increment),
+        (b'-', b'-') => Some(Word::Decrement),
+        (b'+', b'=') => Some(Word::AddAssign),
+        (b'-', b'=') => Some(Word::SubtractAssign),
+        (b'*', b'=') => Some(Word::MultiplyAssign),
+        (b'.', b'=') => Some(Word::ConcatAssign),
+        (b'%', b'=') => Some(Word::RemainderAssign),
+        (b'=', b'>') => Some(Word::Arrow),
         _ => None,
     }
 }
 
 /// The operator that three bytes spell.
-fn three_bytes(b: u8, c: u8, d: u8) -> Option<TokenKind>
+fn three_bytes(b: u8, c: u8, d: u8) -> Option<Word>
     ensures { result ≡ operators.three_bytes b c d }
 {
     match (b, c, d) {
-        (b'=', b'=', b'=') => Some(TokenKind::Identical),
-        (b'!', b'=', b'=') => Some(TokenKind::NotIdentical),
-        (b'<', b'=', b'>') => Some(TokenKind::Spaceship),
-        (b'?', b'?', b'=') => Some(TokenKind::CoalesceAssign),
+        (b'=', b'=', b'=') => Some(Word::Identical),
+        (b'!', b'=', b'=') => Some(Word::NotIdentical),
+        (b'<', b'=', b'>') => Some(Word::Spaceship),
+        (b'?', b'?', b'=') => Some(Word::CoalesceAssign),
         _ => None,
     }
 }
@@ -89,7 +89,7 @@ fn single_operator(b: u8, rest: &[u8]) -> Result<(Option<TokenKind>, usize), Wro
     ensures { Finds (spec.single_operator (operators.one_byte b) b rest.now) result }
 {
     match one_byte(b) {
-        Some(kind) if !is_split(b, rest) => Ok((Some(kind), 1)),
+        Some(word) if !is_split(b, rest) => Ok((Some(TokenKind::Word(word)), 1)),
         _ => Err(Wrong::Fault(Fault::BadByte, 0)),
     }
 }
@@ -99,7 +99,7 @@ fn double_operator(b: u8, c: u8, rest: &[u8]) -> Result<(Option<TokenKind>, usiz
     ensures { Finds (spec.double_operator (operators.two_bytes b c) b rest.now) result }
 {
     match two_bytes(b, c) {
-        Some(kind) => Ok((Some(kind), 2)),
+        Some(word) => Ok((Some(TokenKind::Word(word)), 2)),
         None => single_operator(b, rest),
     }
 }
@@ -112,7 +112,7 @@ pub(crate) fn operator(b: u8, rest: &[u8]) -> Result<(Option<TokenKind>, usize),
         [] => single_operator(b, rest),
         [c] => double_operator(b, *c, rest),
         [c, d, ..] => match three_bytes(b, *c, *d) {
-            Some(kind) => Ok((Some(kind), 3)),
+            Some(word) => Ok((Some(TokenKind::Word(word)), 3)),
             None => double_operator(b, *c, rest),
         },
     }

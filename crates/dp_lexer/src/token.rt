@@ -2,15 +2,9 @@
 
 use crate::spelling::Spelling;
 
-/// What a token is: a variable (by its name without the `$`), a name as written, a number, the bytes that a quoted text
-/// stands for, a keyword (in whatever case it was written), or an operator.
-#[derive(Debug, Drop)]
-pub enum TokenKind {
-    Variable(Spelling),
-    Name(Spelling),
-    Number(i64),
-    Text(Spelling),
-
+/// A token that carries nothing: a keyword, in whatever case it was written, or an operator.
+#[derive(Clone, Copy, Debug, PartialEq, Eq)]
+pub enum Word {
     Array,
     As,
     Break,
@@ -112,6 +106,17 @@ pub enum TokenKind {
     OpenBrace,
     /// `}`
     CloseBrace,
+}
+
+/// What a token is: a variable (by its name without the `$`), a name as written, a number, the bytes that a quoted text
+/// stands for, or a token that carries nothing.
+#[derive(Debug, Drop)]
+pub enum TokenKind {
+    Variable(Spelling),
+    Name(Spelling),
+    Number(i64),
+    Text(Spelling),
+    Word(Word),
 }
 
 /// A token: what it is, the offsets of its first byte and of the byte behind its last one, and the line on which it

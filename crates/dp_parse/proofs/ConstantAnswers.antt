@@ -5,6 +5,8 @@ use Rattle.dp_lexer.specs.declared.token.TokenKind.TheVariants as kind
 use Rattle.dp_expressions.specs.declared.operand.Part.TheVariants as part
 use Rattle.dp_parse.specs.declared.ended.Body.{Body}
 use Rattle.dp_parse.specs.declared.ended.Ended.{Ended}
+use Rattle.dp_token_rules.specs.declared.terminal.Terminal.TheVariants.{Of}
+use Rattle.dp_lexer.specs.declared.token.Word.TheVariants as word
 use Rattle.dp_token_rules.specs.declared.terminal.Terminal.{Terminal}
 use Rattle.dp_token_rules.specs.declared.terminal.Terminal.TheVariants as terminal
 use Rattle.dp_tree.specs.declared.tree.Definition.{Definition}
@@ -47,8 +49,9 @@ ConstantsLineAt = OnLineAt (λ line. MadeAt ConstantsAt (stated line))
 abbrev MoreAt : Definition → Rules Depth (List Definition)
 MoreAt first = MadeAt (ManyAt NextAt) (λ more. first ∷ more)
 
-next_starts : StartsIn NextAt (is terminal.Comma)
-next_starts = joined_starts (MarkAt terminal.Comma) (λ _. DefinitionAt) (is terminal.Comma) (mark_starts terminal.Comma)
+next_starts : StartsIn NextAt (is (Of word.Comma))
+next_starts = joined_starts (MarkAt (Of word.Comma)) (λ _. DefinitionAt) (is (Of word.Comma))
+    (mark_starts (Of word.Comma))
 
 of_constants_starts : StartsIn (OfConstantsAt DefinitionsAt) (is terminal.Const)
 of_constants_starts m text a h =
@@ -69,20 +72,20 @@ module _ (ends place_ends : Terminal → Bool) (known : AreRead ends place_ends)
   between a s = ends s
 
   abbrev last : {A : Type 0} → A → Terminal → Bool
-  last a s = ends s && not (is terminal.Comma s)
+  last a s = ends s && not (is (Of word.Comma) s)
 
-  last_ends : (s : Terminal) → (ends s && not (is terminal.Comma s)) ≡ true → ends s ≡ true
-  last_ends s e = (and_parts (ends s) (not (is terminal.Comma s)) e).0
+  last_ends : (s : Terminal) → (ends s && not (is (Of word.Comma) s)) ≡ true → ends s ≡ true
+  last_ends s e = (and_parts (ends s) (not (is (Of word.Comma) s)) e).0
 
-  comma_ends : (s : Terminal) → is terminal.Comma s ≡ true → ends s ≡ true
-  comma_ends = mark_passes ends terminal.Comma (known.stops terminal.Comma refl)
+  comma_ends : (s : Terminal) → is (Of word.Comma) s ≡ true → ends s ≡ true
+  comma_ends = mark_passes ends (Of word.Comma) (known.stops (Of word.Comma) refl)
 
   more_follows : Follows between MoreAt last
   more_follows m first us all r h stops =
       let g = given (Many (NextAt m)) (λ more. first ∷ more) us all h in
       closed_follows (λ found. MadeAt NextAt (λ d. found ++ d ∷ [])) (λ found. GivesAt found) between last
-      (λ found. starts_in_more (MadeAt NextAt (λ d. found ++ d ∷ [])) (is terminal.Comma) ends comma_ends
-      (made_starts NextAt (λ d. found ++ d ∷ []) (is terminal.Comma) next_starts))
+      (λ found. starts_in_more (MadeAt NextAt (λ d. found ++ d ∷ [])) (is (Of word.Comma)) ends comma_ends
+      (made_starts NextAt (λ d. found ++ d ∷ []) (is (Of word.Comma)) next_starts))
       (gives_follow (λ found. found) between last (λ found s e. last_ends s e)) m [] us g.0 r g.1 stops
 
   module _ (depth : Depth) where
@@ -92,11 +95,11 @@ module _ (ends place_ends : Terminal → Bool) (known : AreRead ends place_ends)
     definition_reader : IsPartReader 0 DefinitionAt between depth (definition expression)
     unfolding definition
     definition_reader =
-        then_reader 0 depth (OneAt (by_kind name_in)) (λ name. JoinedAt (MarkAt terminal.Assign)
+        then_reader 0 depth (OneAt (by_kind name_in)) (λ name. JoinedAt (MarkAt (Of word.Assign))
         (λ _. MadeAt ExpressionAt (definition_of name))) between (kind name_in)
-        (λ name. mark terminal.Assign >> made expression (definition_of name))
+        (λ name. mark (Of word.Assign) >> made expression (definition_of name))
         (kind_reader 0 depth name_in (kind.Name (97 ∷ [])) (97 ∷ []) refl)
-        (λ name. mark_then 0 depth terminal.Assign kind.Assign refl
+        (λ name. mark_then 0 depth (Of word.Assign) (kind.Word word.Assign) refl
         (λ _. MadeAt ExpressionAt (definition_of name)) between
         (λ _. made expression (definition_of name))
         (λ _. made_reader 0 depth ExpressionAt (definition_of name) between between expression (λ a s e. e)
@@ -104,20 +107,21 @@ module _ (ends place_ends : Terminal → Bool) (known : AreRead ends place_ends)
 
     next_reader : IsPartReader 0 NextAt between depth (next_definition expression)
     next_reader =
-        mark_then 0 depth terminal.Comma kind.Comma refl (λ _. DefinitionAt) between (λ _. definition expression)
+        mark_then 0 depth (Of word.Comma) (kind.Word word.Comma) refl (λ _. DefinitionAt) between
+        (λ _. definition expression)
         (λ _. definition_reader)
 
     abbrev more : Definition → Reader (List Definition)
-    more first = made (many (is terminal.Comma) (next_definition expression)) (λ found. first ∷ found)
+    more first = made (many (is (Of word.Comma)) (next_definition expression)) (λ found. first ∷ found)
 
     more_reader : (first : Definition) → IsPartReader 0 (MoreAt first) last depth (more first)
     more_reader first = record {
       answers =
           λ some ts. made_answers Deeper same_depth (ManyAt NextAt) (λ found. first ∷ found) last last depth ts
-          (λ a s e. e) (many (is terminal.Comma) (next_definition expression) ts)
-          (many_answers NextAt Deeper same_depth (is terminal.Comma) between last depth (next_definition expression)
+          (λ a s e. e) (many (is (Of word.Comma)) (next_definition expression) ts)
+          (many_answers NextAt Deeper same_depth (is (Of word.Comma)) between last depth (next_definition expression)
           next_starts (λ a s e. comma_ends s e) (λ all a s e. last_ends s e)
-          (λ all s e. not_true (is terminal.Comma s) (and_parts (ends s) (not (is terminal.Comma s)) e).1)
+          (λ all s e. not_true (is (Of word.Comma) s) (and_parts (ends s) (not (is (Of word.Comma) s)) e).1)
           (λ us here. next_reader.answers some us) ts);
       least =
           λ m some. (
@@ -150,8 +154,8 @@ module _ (ends place_ends : Terminal → Bool) (known : AreRead ends place_ends)
     constants_reader : IsPartReader 0 ConstantsAt Anything depth (constants_rule expression)
     unfolding constants_rule
     constants_reader =
-        before_mark 0 depth (OfConstantsAt DefinitionsAt) last terminal.Semicolon kind.Semicolon refl
-        (λ a. both (ends terminal.Semicolon) true (known.stops terminal.Semicolon refl) refl)
+        before_mark 0 depth (OfConstantsAt DefinitionsAt) last (Of word.Semicolon) (kind.Word word.Semicolon) refl
+        (λ a. both (ends (Of word.Semicolon)) true (known.stops (Of word.Semicolon) refl) refl)
         (λ all _. GivesAt (whole (tree.Constants all))) Anything (of_constants (definitions expression))
         (λ all _. gives (whole (tree.Constants all))) of_constants_reader
         (λ all _. gives_reader 0 depth (whole (tree.Constants all)) Anything)

@@ -3,6 +3,8 @@ use Rattle.std.proofs.Common.{◌≡◌, inl, inr, ℕ, zero, suc, ◌<◌, Bool
 use Rattle.dp_lexer.specs.declared.token.Token.{Token}
 use Rattle.dp_lexer.specs.declared.token.TokenKind.TheVariants as kind
 use Rattle.dp_expressions.specs.declared.rank.Rank.{Rank}
+use Rattle.dp_token_rules.specs.declared.terminal.Terminal.TheVariants.{Of}
+use Rattle.dp_lexer.specs.declared.token.Word.TheVariants as word
 use Rattle.dp_token_rules.specs.declared.terminal.Terminal.{Terminal}
 use Rattle.dp_token_rules.specs.declared.terminal.Terminal.TheVariants as terminal
 use Rattle.dp_tree.specs.declared.tree.Expression.{Expression}
@@ -34,7 +36,7 @@ named_go_on m named text a (inr h) x front more split of_constants =
     (one_goes_on (by_kind name_in))) named text a h x front more split of_constants
 named_go_on m named text a (inl h) x front more split of_constants =
     let j = h.spelled in
-    let open_ = mark_token terminal.OpenParenthesis j.other.front j.other.value j.other.one in
+    let open_ = mark_token (Of word.OpenParenthesis) j.other.front j.other.value j.other.one in
     let whole : x ∷ (front ++ more) ≡ j.one.symbol ∷ (open_.0 ∷ j.other.back) =
     sym split ∙ j.split ∙ ap (λ l. l ++ j.back) j.one.alone
     ∙ ap (λ l. j.one.symbol ∷ l) (j.other.split ∙ ap (λ l. l ++ j.other.back) open_.1) in
@@ -49,7 +51,7 @@ named_go_on m named text a (inl h) x front more split of_constants =
         let first : s.0 ≡ x = cc in
         ap (λ t. is terminal.Name (terminal_of t.kind)) (sym first) ∙ s.3
 
-    go : x ≡ h.spelled.one.symbol → (t : Token) → same_terminal (terminal_of t.kind) terminal.OpenParenthesis ≡ true
+    go : x ≡ h.spelled.one.symbol → (t : Token) → same_terminal (terminal_of t.kind) (Of word.OpenParenthesis) ≡ true
         → (front : List Token) → front ++ more ≡ t ∷ h.spelled.other.back → is_of_constants named (x ∷ front) ≡ true
         → GoesOn (NamedAt m) named (x ∷ front)
     go same t is_open [] rest of_constants = (
@@ -71,13 +73,13 @@ named_go_on m named text a (inl h) x front more split of_constants =
         not_true (ends_constant name (terminal_of z.kind))
         (and_parts (not (ends_constant name (terminal_of z.kind)))
         (is_of_constants (is terminal.Name (terminal_of z.kind)) front) behind).0 in
-        let open_ : is terminal.OpenParenthesis (terminal_of z.kind) ≡ true =
-        ap (λ u. is terminal.OpenParenthesis (terminal_of u.kind)) first ∙ is_open in
-        let call : (is terminal.OpenParenthesis (terminal_of z.kind) && name) ≡ true = ap (λ b. b && name) open_
+        let open_ : is (Of word.OpenParenthesis) (terminal_of z.kind) ≡ true =
+        ap (λ u. is (Of word.OpenParenthesis) (terminal_of u.kind)) first ∙ is_open in
+        let call : (is (Of word.OpenParenthesis) (terminal_of z.kind) && name) ≡ true = ap (λ b. b && name) open_
         ∙ is_name in
         let ended : ends_constant name (terminal_of z.kind) ≡ true =
         or_right (never_constant (terminal_of z.kind))
-        (is terminal.OpenParenthesis (terminal_of z.kind) && name) call in
+        (is (Of word.OpenParenthesis) (terminal_of z.kind) && name) call in
         absurd (cc)
 
 -- ---- rules in which a token comes first that stands in no constant
@@ -88,7 +90,8 @@ place_never = starts_in_more PlaceAt (is terminal.Variable) never_constant
     place_starts
 
 isset_never : StartsIn IssetAt never_constant
-isset_never = starts_in_more IssetAt (is terminal.Isset) never_constant (mark_passes never_constant terminal.Isset refl)
+isset_never = starts_in_more IssetAt (is (Of word.Isset)) never_constant
+    (mark_passes never_constant (Of word.Isset) refl)
     isset_starts
 
 stepped_never : StartsIn SteppedFirstAt never_constant
@@ -108,18 +111,18 @@ items_good item close one end = record {
       either_go_on (NoItems (λ _. item) close) (SomeItems (λ _. item) close)
       (made_go_on (Mark close) (λ _. []) end.fronts)
       (joined_go_on item _ one.fronts (λ first. closed_good _ _
-      (λ all. joined_go_on (Mark terminal.Comma) _ (one_goes_on (line_at terminal.Comma))
+      (λ all. joined_go_on (Mark (Of word.Comma)) _ (one_goes_on (line_at (Of word.Comma)))
       (λ _. made_good item (λ a. all ++ a ∷ []) one))
       (λ all. made_good _ (λ _. all) (joined_good _ (λ _. Mark close)
-      (perhaps_good (Mark terminal.Comma) (one_goes_on (line_at terminal.Comma))) (λ _. end))) (first ∷ [])));
+      (perhaps_good (Mark (Of word.Comma)) (one_goes_on (line_at (Of word.Comma)))) (λ _. end))) (first ∷ [])));
   least = λ named. let g = (made_good (Mark close) (λ _. []) end).least named in (g.0, g.1, inl g.2, g.3);
 }
 
-closing_parenthesis : Good (Mark terminal.CloseParenthesis)
-closing_parenthesis = mark_good terminal.CloseParenthesis kind.CloseParenthesis refl (λ n. refl)
+closing_parenthesis : Good (Mark (Of word.CloseParenthesis))
+closing_parenthesis = mark_good (Of word.CloseParenthesis) (kind.Word word.CloseParenthesis) refl (λ n. refl)
 
-closing_bracket : Good (Mark terminal.CloseBracket)
-closing_bracket = mark_good terminal.CloseBracket kind.CloseBracket refl (λ n. refl)
+closing_bracket : Good (Mark (Of word.CloseBracket))
+closing_bracket = mark_good (Of word.CloseBracket) (kind.Word word.CloseBracket) refl (λ n. refl)
 
 -- ---- expressions at each level
 
@@ -140,48 +143,50 @@ module _ (m : ℕ) (under : 0 < m → AreGood m) where
   item_good : 0 < m → Good (ItemRule m (inner m))
   item_good some =
       joined_good ((inner m).expression) _ ((under some).whole)
-      (λ first. or_good (Made (Joined (Mark terminal.Arrow) (λ _. (inner m).expression))
+      (λ first. or_good (Made (Joined (Mark (Of word.Arrow)) (λ _. (inner m).expression))
       (λ value. item (Some first) value)) (Gives (item None first))
-      (made_go_on (Joined (Mark terminal.Arrow) (λ _. (inner m).expression)) (λ value. item (Some first) value)
-      (joined_go_on (Mark terminal.Arrow) (λ _. (inner m).expression) (one_goes_on (line_at terminal.Arrow))
+      (made_go_on (Joined (Mark (Of word.Arrow)) (λ _. (inner m).expression)) (λ value. item (Some first) value)
+      (joined_go_on (Mark (Of word.Arrow)) (λ _. (inner m).expression) (one_goes_on (line_at (Of word.Arrow)))
       (λ _. (under some).whole))) (gives_good (item None first)))
 
   literal_go_on : GoOn (Literal m (inner m))
   literal_go_on =
-      nests_go_on m _ (λ some. joined_go_on (Mark terminal.OpenBracket) _ (one_goes_on (line_at terminal.OpenBracket))
-      (λ _. made_good _ tree.Array (items_good (ItemRule m (inner m)) terminal.CloseBracket (item_good some)
+      nests_go_on m _ (λ some. joined_go_on (Mark (Of word.OpenBracket)) _ (one_goes_on (line_at (Of word.OpenBracket)))
+      (λ _. made_good _ tree.Array (items_good (ItemRule m (inner m)) (Of word.CloseBracket) (item_good some)
       closing_bracket)))
 
   abbrev Items : Rule (List Item)
-  Items = AnyItems (λ _. ItemRule m (inner m)) terminal.CloseParenthesis
+  Items = AnyItems (λ _. ItemRule m (inner m)) (Of word.CloseParenthesis)
 
   abbrev BehindArray : Rule Expression
-  BehindArray = Joined (Mark terminal.OpenParenthesis) (λ _. Made Items tree.Array)
+  BehindArray = Joined (Mark (Of word.OpenParenthesis)) (λ _. Made Items tree.Array)
 
   -- no name stands before the parenthesis behind `array`
-  array_least : (named : Bool) (f : List Token) (line : ℕ) → Mark terminal.Array f line
+  array_least : (named : Bool) (f : List Token) (line : ℕ) → Mark (Of word.Array) f line
       → GoesOn BehindArray (named_after named f) []
   array_least named f line h =
-      let t = mark_token terminal.Array f line h in
+      let t = mark_token (Of word.Array) f line h in
       let unnamed : named_after named f ≡ false =
-      ap (named_after named) t.1 ∙ mark_fails (is terminal.Name) terminal.Array refl (terminal_of t.0.kind) t.2 in
-      let close : List Token = placed kind.CloseParenthesis ∷ [] in
+      ap (named_after named) t.1 ∙ mark_fails (is terminal.Name) (Of word.Array) refl (terminal_of t.0.kind) t.2 in
+      let close : List Token = placed (kind.Word word.CloseParenthesis) ∷ [] in
       subst (λ b. GoesOn BehindArray b []) (sym unnamed) (
-        placed kind.OpenParenthesis ∷ close,
+        placed (kind.Word word.OpenParenthesis) ∷ close,
         tree.Array [],
-        marked terminal.OpenParenthesis (placed kind.OpenParenthesis) (Made Items tree.Array) close (tree.Array [])
+        marked (Of word.OpenParenthesis) (placed (kind.Word word.OpenParenthesis)) (Made Items tree.Array) close
+            (tree.Array [])
             refl (give Items tree.Array close []
-            (empty_items (λ _. ItemRule m (inner m)) terminal.CloseParenthesis kind.CloseParenthesis refl)),
+            (empty_items (λ _. ItemRule m (inner m)) (Of word.CloseParenthesis) (kind.Word word.CloseParenthesis)
+            refl)),
         refl,
       )
 
   array_call_go_on : GoOn (ArrayCall m (inner m))
-  array_call_go_on = nests_go_on m (Joined (Mark terminal.Array) (λ _. BehindArray)) (λ some named text a j.
-      joined_fronts (Mark terminal.Array) (λ _. BehindArray) array_least named text a j
-      (one_goes_on (line_at terminal.Array) named j.front j.value j.one)
-      (λ n. joined_go_on (Mark terminal.OpenParenthesis) (λ _. Made Items tree.Array)
-      (one_goes_on (line_at terminal.OpenParenthesis))
-      (λ _. made_good Items tree.Array (items_good (ItemRule m (inner m)) terminal.CloseParenthesis (item_good some)
+  array_call_go_on = nests_go_on m (Joined (Mark (Of word.Array)) (λ _. BehindArray)) (λ some named text a j.
+      joined_fronts (Mark (Of word.Array)) (λ _. BehindArray) array_least named text a j
+      (one_goes_on (line_at (Of word.Array)) named j.front j.value j.one)
+      (λ n. joined_go_on (Mark (Of word.OpenParenthesis)) (λ _. Made Items tree.Array)
+      (one_goes_on (line_at (Of word.OpenParenthesis)))
+      (λ _. made_good Items tree.Array (items_good (ItemRule m (inner m)) (Of word.CloseParenthesis) (item_good some)
       closing_parenthesis)) n j.back a j.other))
 
   primary_go_on : GoOn (Primary m (inner m))
@@ -193,7 +198,7 @@ module _ (m : ℕ) (under : 0 < m → AreGood m) where
       named text a h
   primary_go_on named text a (inr (inr (inl h))) =
       among (Group m (inner m)) (Primary m (inner m)) (λ l b k. inr (inr (inl k)))
-      (enclosed_go_on terminal.OpenParenthesis terminal.CloseParenthesis closing_parenthesis) named text a h
+      (enclosed_go_on (Of word.OpenParenthesis) (Of word.CloseParenthesis) closing_parenthesis) named text a h
   primary_go_on named text a (inr (inr (inr (inl h)))) =
       among (Literal m (inner m)) (Primary m (inner m)) (λ l b k. inr (inr (inr (inl k)))) literal_go_on named text a h
   primary_go_on named text a (inr (inr (inr (inr (inl h))))) =
@@ -205,7 +210,7 @@ module _ (m : ℕ) (under : 0 < m → AreGood m) where
   primary_indexed_go_on : GoOn (PrimaryIndexed m (inner m))
   primary_indexed_go_on =
       joined_go_on (Primary m (inner m)) _ primary_go_on (λ base. made_good _ (indexed base) (many_good _
-      (enclosed_go_on terminal.OpenBracket terminal.CloseBracket closing_bracket)))
+      (enclosed_go_on (Of word.OpenBracket) (Of word.CloseBracket) closing_bracket)))
 
   prefixed_go_on : GoOn (Prefixed m (inner m))
   prefixed_go_on =
@@ -256,13 +261,13 @@ module _ (m : ℕ) (under : 0 < m → AreGood m) where
       (λ links. gives_good links) []))
 
   abbrev Coalesced : Rule Expression
-  Coalesced = Nests m (Joined (Mark terminal.Coalesce) (λ _. (inner m).coalesce))
+  Coalesced = Nests m (Joined (Mark (Of word.Coalesce)) (λ _. (inner m).coalesce))
 
   coalesce_rest_good : (left : Expression) → Good (CoalesceRest m (inner m) left)
   coalesce_rest_good left =
       or_good (Made Coalesced (λ right. tree.Coalesce left right)) (Gives left)
       (made_go_on Coalesced (λ right. tree.Coalesce left right) (nests_go_on m _ (λ some.
-      joined_go_on (Mark terminal.Coalesce) (λ _. (inner m).coalesce) (one_goes_on (line_at terminal.Coalesce))
+      joined_go_on (Mark (Of word.Coalesce)) (λ _. (inner m).coalesce) (one_goes_on (line_at (Of word.Coalesce)))
       (λ _. (under some).coalesced)))) (gives_good left)
 
   coalesce_good : Good (CoalesceRule m (inner m))
@@ -272,10 +277,11 @@ module _ (m : ℕ) (under : 0 < m → AreGood m) where
 
   branches_go_on : (test : Expression) → GoOn (Branches m (inner m) test)
   branches_go_on test =
-      joined_go_on (Mark terminal.Question) _ (one_goes_on (line_at terminal.Question))
+      joined_go_on (Mark (Of word.Question)) _ (one_goes_on (line_at (Of word.Question)))
       (λ _. joined_good _ _ (perhaps_good (Nests m ((inner m).expression))
       (nests_go_on m ((inner m).expression) (λ some. (under some).whole.fronts)))
-      (λ between. joined_good (Mark terminal.Colon) _ (mark_good terminal.Colon kind.Colon refl (λ n. refl))
+      (λ between. joined_good (Mark (Of word.Colon)) _ (mark_good (Of word.Colon) (kind.Word word.Colon) refl
+      (λ n. refl))
       (λ _. made_good (CoalesceRule m (inner m)) (λ otherwise. tree.Conditional test between otherwise)
       coalesce_good)))
 
@@ -330,14 +336,14 @@ name_good = record {
 module _ (m : ℕ) where
   definition_good : Good (DefinitionRule (IsExpression m))
   definition_good =
-      joined_good (Kind name_in) _ name_good (λ name. joined_good (Mark terminal.Assign) _
-      (mark_good terminal.Assign kind.Assign refl (λ n. refl))
+      joined_good (Kind name_in) _ name_good (λ name. joined_good (Mark (Of word.Assign)) _
+      (mark_good (Of word.Assign) (kind.Word word.Assign) refl (λ n. refl))
       (λ _. made_good (IsExpression m) (definition_of name) (expression_good m (under_good m))))
 
   next_go_on : GoOn (NextDefinition (IsExpression m))
   next_go_on =
-      joined_go_on (Mark terminal.Comma) (λ _. DefinitionRule (IsExpression m))
-      (one_goes_on (line_at terminal.Comma)) (λ _. definition_good)
+      joined_go_on (Mark (Of word.Comma)) (λ _. DefinitionRule (IsExpression m))
+      (one_goes_on (line_at (Of word.Comma))) (λ _. definition_good)
 
   pub definitions_good : Good (Definitions (IsExpression m))
   definitions_good =

@@ -3,6 +3,8 @@
 use Rattle.std.proofs.Common.{◌≡◌, ◌⊎◌, inl, inr, ℕ, zero, suc, ◌<◌, Bool, true, false, not, ◌&&◌, ◌||◌, List, [], ◌∷◌, ◌++◌, Option, Some, None, sym, refl, ap, ◌∙◌, subst, append_assoc, append-nil}
 use Rattle.dp_lexer.specs.declared.token.Token.{Token}
 use Rattle.dp_lexer.specs.declared.token.TokenKind.{TokenKind}
+use Rattle.dp_token_rules.specs.declared.terminal.Terminal.TheVariants.{Of}
+use Rattle.dp_lexer.specs.declared.token.Word.TheVariants as word
 use Rattle.dp_token_rules.specs.declared.terminal.Terminal.{Terminal}
 use Rattle.dp_token_rules.specs.declared.terminal.Terminal.TheVariants as terminal
 use Rattle.dp_token_rules.specs.Terminals.{terminal_of, same_terminal, is}
@@ -230,7 +232,7 @@ never_go_on rule starts m named text a h x front more split of_constants =
     let never : never_constant (terminal_of x.kind) ≡ true = ap (λ t. never_constant (terminal_of t.kind)) (sym same)
     ∙ s.3 in
     let yes : ends_constant named (terminal_of x.kind) ≡ true =
-    ap (λ b. b || (is terminal.OpenParenthesis (terminal_of x.kind) && named)) never in
+    ap (λ b. b || (is (Of word.OpenParenthesis) (terminal_of x.kind) && named)) never in
     let no : ends_constant named (terminal_of x.kind) ≡ false =
     not_true (ends_constant named (terminal_of x.kind)) (and_parts (not (ends_constant named (terminal_of x.kind)))
     (is_of_constants (is terminal.Name (terminal_of x.kind)) front) of_constants).0 in

@@ -1,17 +1,22 @@
 -- How functions, files and single expressions are read.
+use denote.Enum.Declared.{tag_of}
 use Rattle.std.specs.declared.ops.ControlFlow.{ControlFlow}
 use Rattle.std.specs.declared.ops.ControlFlow.TheVariants.{Continue, Break}
 use Rattle.std.specs.List.{list_any}
 use Rattle.std.specs.Str.{bytes_eq}
-use Rattle.std.proofs.Common.{◌≡◌, inl, inr, ℕ, zero, suc, ◌≤◌, Bool, true, false, not, List, [], ◌∷◌, ◌++◌, length, Option, Some, None, Ok, Err, sym, refl, ap, ◌∙◌, subst, append-nil, cond}
+use Rattle.std.proofs.Common.{◌≡◌, inl, inr, ℕ, zero, suc, ◌+◌, ◌≤◌, Bool, true, false, not, List, [], ◌∷◌, ◌++◌, length, Option, Some, None, Ok, Err, sym, refl, ap, ◌∙◌, subst, append-nil, cond, arith}
+use Rattle.std.proofs.lemmas.Bool.{ne_eqb}
 use Rattle.dp_lexer.specs.declared.token.Token.{Token}
 use Rattle.dp_lexer.specs.declared.token.TokenKind.{TokenKind}
 use Rattle.dp_lexer.specs.declared.token.TokenKind.TheVariants as kind
+use Rattle.dp_lexer.specs.contracts.token.Word.{the_type}
 use Rattle.dp_lexer.specs.Keywords.{is_reserved}
 use Rattle.dp_parse.specs.declared.ended.Body.{Body}
 use Rattle.dp_parse.specs.declared.ended.Parts.{Parts}
 use Rattle.dp_expressions.specs.declared.operand.Part.TheVariants as part
 use Rattle.dp_grammar.specs.declared.refusal.Refusal.TheVariants.{Unexpected}
+use Rattle.dp_token_rules.specs.declared.terminal.Terminal.TheVariants.{Of}
+use Rattle.dp_lexer.specs.declared.token.Word.TheVariants as word
 use Rattle.dp_token_rules.specs.declared.terminal.Terminal.{Terminal}
 use Rattle.dp_token_rules.specs.declared.terminal.Terminal.TheVariants as terminal
 use Rattle.dp_tree.specs.declared.tree.Expression.{Expression}
@@ -58,13 +63,13 @@ parameter_starts found = one_starts (by_kind (parameter_in found)) (is terminal.
     of _ a e = absurd (cc)
 
 abbrev ParametersAt : Rules Depth (List Text)
-ParametersAt = AnyItemsAt (λ found. OneAt (by_kind (parameter_in found))) terminal.CloseParenthesis
+ParametersAt = AnyItemsAt (λ found. OneAt (by_kind (parameter_in found))) (Of word.CloseParenthesis)
 
 abbrev parameters : Reader (List Text)
-parameters = any_items (λ found. kind (parameter_in found)) terminal.CloseParenthesis
+parameters = any_items (λ found. kind (parameter_in found)) (Of word.CloseParenthesis)
 
 are_parameters : (level : Depth)
-    → AreItems Deeper (λ found. OneAt (by_kind (parameter_in found))) terminal.CloseParenthesis Anything
+    → AreItems Deeper (λ found. OneAt (by_kind (parameter_in found))) (Of word.CloseParenthesis) Anything
     (is terminal.Variable) level (λ found. kind (parameter_in found))
 are_parameters level = record {
   starts = parameter_starts;
@@ -73,7 +78,7 @@ are_parameters level = record {
   close_apart = refl;
   stops_comma = λ a. refl;
   stops_close = λ a. refl;
-  closing = placed kind.CloseParenthesis;
+  closing = placed (kind.Word word.CloseParenthesis);
   closes = refl;
   some_item =
       λ m above. (
@@ -89,15 +94,15 @@ parameters_reader : (level : Depth) → IsPartReader 1 ParametersAt Anything lev
 parameters_reader level = record {
   answers =
       λ some. any_items_answers Deeper same_depth (λ found. OneAt (by_kind (parameter_in found)))
-      terminal.CloseParenthesis Anything (is terminal.Variable) level (λ found. kind (parameter_in found))
+      (Of word.CloseParenthesis) Anything (is terminal.Variable) level (λ found. kind (parameter_in found))
       (are_parameters level);
   least =
       λ m some. (
-        placed kind.CloseParenthesis
+        placed (kind.Word word.CloseParenthesis)
             ∷ [],
         [],
-        inl (give (Mark terminal.CloseParenthesis) (λ _. []) (placed kind.CloseParenthesis ∷ []) 1
-            (mark_alone terminal.CloseParenthesis kind.CloseParenthesis refl)),
+        inl (give (Mark (Of word.CloseParenthesis)) (λ _. []) (placed (kind.Word word.CloseParenthesis) ∷ []) 1
+            (mark_alone (Of word.CloseParenthesis) (kind.Word word.CloseParenthesis) refl)),
       );
 }
 
@@ -119,7 +124,9 @@ token_no_end t = go t.kind
     go (kind.Name name) =
         of (is_reserved name) (reserved_terminal name) terminal.Name (reserved_fails (is terminal.End) name refl refl)
         refl
-    go _ = refl
+    go (kind.Number _) = refl
+    go (kind.Text _) = refl
+    go (kind.Word w) = ne_eqb (8 + tag_of the_type w) 0 (λ same. absurd (omega arith))
 
 -- behind the end nothing is left
 pub ends_empty : (ts : List Token) → is terminal.End (head ts) ≡ true → ts ≡ []
@@ -131,8 +138,8 @@ module _ (ends place_ends : Terminal → Bool) (known : AreRead ends place_ends)
 
   abbrev FunctionRestAt : ℕ → Rules Depth Function
   FunctionRestAt line =
-      JoinedAt (OneAt (by_kind name_in)) (λ name. JoinedAt (MarkAt terminal.OpenParenthesis)
-      (λ _. JoinedAt ParametersAt (λ found. JoinedAt (MarkAt terminal.OpenBrace)
+      JoinedAt (OneAt (by_kind name_in)) (λ name. JoinedAt (MarkAt (Of word.OpenParenthesis))
+      (λ _. JoinedAt ParametersAt (λ found. JoinedAt (MarkAt (Of word.OpenBrace))
       (λ _. JoinedAt (BodiesAt 0) (λ all. GivesAt (function_of line name found all))))))
 
   module _ (depth : Depth) where
@@ -141,14 +148,14 @@ module _ (ends place_ends : Terminal → Bool) (known : AreRead ends place_ends)
 
     abbrev after_parameters : ℕ → Text → List Text → Reader Function
     after_parameters line name found =
-        mark terminal.OpenBrace >> (bodies (body 0) >>= (λ all. gives (function_of line name found all)))
+        mark (Of word.OpenBrace) >> (bodies (body 0) >>= (λ all. gives (function_of line name found all)))
 
     after_parameters_reader : (line : ℕ) (name : Text) (found : List Text)
-        → IsPartReader 1 (JoinedAt (MarkAt terminal.OpenBrace)
+        → IsPartReader 1 (JoinedAt (MarkAt (Of word.OpenBrace))
         (λ _. JoinedAt (BodiesAt 0) (λ all. GivesAt (function_of line name found all)))) Anything depth
         (after_parameters line name found)
     after_parameters_reader line name found =
-        mark_then 1 depth terminal.OpenBrace kind.OpenBrace refl
+        mark_then 1 depth (Of word.OpenBrace) (kind.Word word.OpenBrace) refl
         (λ _. JoinedAt (BodiesAt 0) (λ all. GivesAt (function_of line name found all))) Anything
         (λ _. bodies (body 0) >>= (λ all. gives (function_of line name found all)))
         (λ _. then_reader 1 depth (BodiesAt 0) (λ all. GivesAt (function_of line name found all)) Anything
@@ -157,39 +164,40 @@ module _ (ends place_ends : Terminal → Bool) (known : AreRead ends place_ends)
         depth.bodies)) (λ all. gives_reader 1 depth (function_of line name found all) Anything))
 
     abbrev after_name : ℕ → Text → Reader Function
-    after_name line name = mark terminal.OpenParenthesis >> (parameters >>= after_parameters line name)
+    after_name line name = mark (Of word.OpenParenthesis) >> (parameters >>= after_parameters line name)
 
     after_name_reader : (line : ℕ) (name : Text)
-        → IsPartReader 1 (JoinedAt (MarkAt terminal.OpenParenthesis)
-        (λ _. JoinedAt ParametersAt (λ found. JoinedAt (MarkAt terminal.OpenBrace)
+        → IsPartReader 1 (JoinedAt (MarkAt (Of word.OpenParenthesis))
+        (λ _. JoinedAt ParametersAt (λ found. JoinedAt (MarkAt (Of word.OpenBrace))
         (λ _. JoinedAt (BodiesAt 0) (λ all. GivesAt (function_of line name found all)))))) Anything depth
         (after_name line name)
     after_name_reader line name =
         let rest : List Text
-        → Rules Depth Function = λ found. JoinedAt (MarkAt terminal.OpenBrace)
+        → Rules Depth Function = λ found. JoinedAt (MarkAt (Of word.OpenBrace))
         (λ _. JoinedAt (BodiesAt 0) (λ all. GivesAt (function_of line name found all))) in
-        mark_then 1 depth terminal.OpenParenthesis kind.OpenParenthesis refl (λ _. JoinedAt ParametersAt rest) Anything
+        mark_then 1 depth (Of word.OpenParenthesis) (kind.Word word.OpenParenthesis) refl
+        (λ _. JoinedAt ParametersAt rest) Anything
         (λ _. parameters >>= after_parameters line name)
         (λ _. then_reader 1 depth ParametersAt rest Anything parameters (after_parameters line name)
         (parameters_reader depth) (after_parameters_reader line name))
 
-    pub function_answers : (ts : List Token) → is terminal.Function (head ts) ≡ true
+    pub function_answers : (ts : List Token) → is (Of word.Function) (head ts) ≡ true
         → Answers Deeper FunctionRule Anything depth ts (function_rule depth ts)
     unfolding function_rule
     function_answers ts here =
-        keyword_nests terminal.Function kind.Function refl FunctionRestAt Anything depth
+        keyword_nests (Of word.Function) (kind.Word word.Function) refl FunctionRestAt Anything depth
         (λ line. kind name_in >>= after_name line) ts refl here
         (λ line. then_reader 1 depth (OneAt (by_kind name_in))
-        (λ name. JoinedAt (MarkAt terminal.OpenParenthesis)
-        (λ _. JoinedAt ParametersAt (λ found. JoinedAt (MarkAt terminal.OpenBrace)
+        (λ name. JoinedAt (MarkAt (Of word.OpenParenthesis))
+        (λ _. JoinedAt ParametersAt (λ found. JoinedAt (MarkAt (Of word.OpenBrace))
         (λ _. JoinedAt (BodiesAt 0) (λ all. GivesAt (function_of line name found all)))))) Anything (kind name_in)
         (after_name line)
         (kind_reader 1 depth name_in (kind.Name (97 ∷ [])) (97 ∷ []) refl) (after_name_reader line))
 
-  function_starts : StartsIn FunctionRule (is terminal.Function)
+  function_starts : StartsIn FunctionRule (is (Of word.Function))
   function_starts =
-      nests_starts (λ m. m.bodies) _ (is terminal.Function) (joined_starts (MarkAt terminal.Function) _
-      (is terminal.Function) (mark_starts terminal.Function))
+      nests_starts (λ m. m.bodies) _ (is (Of word.Function)) (joined_starts (MarkAt (Of word.Function)) _
+      (is (Of word.Function)) (mark_starts (Of word.Function)))
 
   -- ---- files
 
@@ -215,8 +223,8 @@ module _ (ends place_ends : Terminal → Bool) (known : AreRead ends place_ends)
   abbrev between_parts : Parts → Terminal → Bool
   between_parts parts s = not (takes_else s)
 
-  function_of_starts : (parts : Parts) → StartsIn (FunctionOf parts) (is terminal.Function)
-  function_of_starts parts = made_starts FunctionRule (with_function parts) (is terminal.Function) function_starts
+  function_of_starts : (parts : Parts) → StartsIn (FunctionOf parts) (is (Of word.Function))
+  function_of_starts parts = made_starts FunctionRule (with_function parts) (is (Of word.Function)) function_starts
 
   statement_of_starts : (parts : Parts) → StartsIn (StatementOf parts) begins_statement
   statement_of_starts parts =
@@ -227,11 +235,11 @@ module _ (ends place_ends : Terminal → Bool) (known : AreRead ends place_ends)
       made_starts ConstantsLineAt (with_statement parts) (is terminal.Const) constants_line_starts
 
   -- a test that `function` and `const` pass, and what begins a statement
-  part_begins : (parts : Parts) (test : Terminal → Bool) → test terminal.Function ≡ true → test terminal.Const ≡ true
+  part_begins : (parts : Parts) (test : Terminal → Bool) → test (Of word.Function) ≡ true → test terminal.Const ≡ true
       → ((s : Terminal) → begins_statement s ≡ true → test s ≡ true) → StartsIn (PartAt parts) test
   part_begins parts test functions constants statements =
       either_starts (FunctionOf parts) (OtherPart parts) test
-      (starts_in_more (FunctionOf parts) (is terminal.Function) test (mark_passes test terminal.Function functions)
+      (starts_in_more (FunctionOf parts) (is (Of word.Function)) test (mark_passes test (Of word.Function) functions)
       (function_of_starts parts))
       (either_starts (ConstantsOf parts) (StatementOf parts) test
       (starts_in_more (ConstantsOf parts) (is terminal.Const) test (mark_passes test terminal.Const constants)
@@ -250,13 +258,13 @@ module _ (ends place_ends : Terminal → Bool) (known : AreRead ends place_ends)
       starts_apart (StatementOf parts) between_parts (is terminal.Const) begins_statement
       (mark_apart begins_statement terminal.Const refl) (statement_of_starts parts)
 
-  no_function : (parts : Parts) → Apart (OtherPart parts) between_parts (is terminal.Function)
+  no_function : (parts : Parts) → Apart (OtherPart parts) between_parts (is (Of word.Function))
   no_function parts =
-      either_apart (ConstantsOf parts) (StatementOf parts) between_parts (is terminal.Function)
-      (starts_apart (ConstantsOf parts) between_parts (is terminal.Function) (is terminal.Const)
-      (mark_fails (is terminal.Function) terminal.Const refl) (constants_of_starts parts))
-      (starts_apart (StatementOf parts) between_parts (is terminal.Function) begins_statement
-      (mark_apart begins_statement terminal.Function refl) (statement_of_starts parts))
+      either_apart (ConstantsOf parts) (StatementOf parts) between_parts (is (Of word.Function))
+      (starts_apart (ConstantsOf parts) between_parts (is (Of word.Function)) (is terminal.Const)
+      (mark_fails (is (Of word.Function)) terminal.Const refl) (constants_of_starts parts))
+      (starts_apart (StatementOf parts) between_parts (is (Of word.Function)) begins_statement
+      (mark_apart begins_statement (Of word.Function) refl) (statement_of_starts parts))
 
   end_follows : Follows between_parts EndAt end_stop
   end_follows =
@@ -279,19 +287,19 @@ module _ (ends place_ends : Terminal → Bool) (known : AreRead ends place_ends)
     read_constants parts =
         made (on_its_line (constants_rule (reading depth.expressions part.Whole))) (with_statement parts)
 
-    function_part : (parts : Parts) (ts : List Token) → is terminal.Function (head ts) ≡ true
+    function_part : (parts : Parts) (ts : List Token) → is (Of word.Function) (head ts) ≡ true
         → Answers Deeper (PartAt parts) between_parts depth ts (read_function parts ts)
     function_part parts ts here =
-        by_first Deeper same_depth (FunctionOf parts) (OtherPart parts) (is terminal.Function) between_parts depth ts
+        by_first Deeper same_depth (FunctionOf parts) (OtherPart parts) (is (Of word.Function)) between_parts depth ts
         (function_of_starts parts) (no_function parts) here (read_function parts ts)
         (made_answers Deeper same_depth FunctionRule (with_function parts) Anything between_parts depth ts
         (λ f s e. refl) (function_rule depth ts) (function_answers depth ts here))
 
-    other_part : (parts : Parts) (ts : List Token) → is terminal.Function (head ts) ≡ false → (o : Outcome Parts)
+    other_part : (parts : Parts) (ts : List Token) → is (Of word.Function) (head ts) ≡ false → (o : Outcome Parts)
         → Answers Deeper (OtherPart parts) between_parts depth ts o
         → Answers Deeper (PartAt parts) between_parts depth ts o
     other_part parts ts none =
-        by_second Deeper same_depth (FunctionOf parts) (OtherPart parts) (is terminal.Function) between_parts depth ts
+        by_second Deeper same_depth (FunctionOf parts) (OtherPart parts) (is (Of word.Function)) between_parts depth ts
         (function_of_starts parts) (no_function parts) none
 
     constants_part : (parts : Parts) (ts : List Token) → is terminal.Const (head ts) ≡ true
@@ -315,14 +323,14 @@ module _ (ends place_ends : Terminal → Bool) (known : AreRead ends place_ends)
 
     abbrev next_part : Parts → Reader (ControlFlow Parts Parts)
     next_part parts ts =
-        cond (is terminal.Function (head ts)) (made (read_function parts) Continue ts)
+        cond (is (Of word.Function) (head ts)) (made (read_function parts) Continue ts)
         (cond (is terminal.Const (head ts)) (made (read_constants parts) Continue ts)
         (made (read_statement parts) Continue ts))
 
     next_part_answers : (parts : Parts) (ts : List Token)
         → Answers Deeper (MadeAt (PartAt parts) Continue) (step_stop between_parts end_stop) depth ts
         (next_part parts ts)
-    next_part_answers parts ts = go (is terminal.Function (head ts)) (is terminal.Const (head ts)) refl refl
+    next_part_answers parts ts = go (is (Of word.Function) (head ts)) (is terminal.Const (head ts)) refl refl
       where
         continued : (o : Outcome Parts) → Answers Deeper (PartAt parts) between_parts depth ts o
             → Answers {A = ControlFlow Parts Parts} Deeper (MadeAt (PartAt parts) Continue)
@@ -331,7 +339,7 @@ module _ (ends place_ends : Terminal → Bool) (known : AreRead ends place_ends)
             made_answers Deeper same_depth (PartAt parts) Continue between_parts
             (step_stop between_parts end_stop) depth ts (λ x s e. e) o reads
 
-        go : (f c : Bool) → is terminal.Function (head ts) ≡ f → is terminal.Const (head ts) ≡ c
+        go : (f c : Bool) → is (Of word.Function) (head ts) ≡ f → is terminal.Const (head ts) ≡ c
             → Answers {A = ControlFlow Parts Parts} Deeper (MadeAt (PartAt parts) Continue)
             (step_stop between_parts end_stop) depth ts
             (cond f (made (read_function parts) Continue ts)
@@ -396,7 +404,7 @@ file_ends depth (suc count) parts ts x found =
 
     step : ((next : Parts) (us : List Token) → until (file_step depth) count next us ≡ Ok x → x.1 ≡ []) → (b : Bool)
         → is terminal.End (head ts) ≡ b
-        → and_then (cond b (Ok (Break parts, ts)) (cond (is terminal.Function (head ts))
+        → and_then (cond b (Ok (Break parts, ts)) (cond (is (Of word.Function) (head ts))
         (made (made (function_rule depth) (with_function parts)) Continue ts)
         (cond (is terminal.Const (head ts))
         (made (made (on_its_line (constants_rule (reading depth.expressions part.Whole))) (with_statement parts))
@@ -406,7 +414,7 @@ file_ends depth (suc count) parts ts x found =
     step again true end found =
         let v : Parts × List Token = (parts, ts) in let same : v ≡ x = cc in ap (λ p. p.1) (sym same)
         ∙ ends_empty ts end
-    step again false end found = go (is terminal.Function (head ts)) (is terminal.Const (head ts)) found
+    step again false end found = go (is (Of word.Function) (head ts)) (is terminal.Const (head ts)) found
       where
         go : (f c : Bool) → and_then (cond f (made (made (function_rule depth) (with_function parts)) Continue ts)
             (cond c (made (made (on_its_line (constants_rule (reading depth.expressions part.Whole)))
@@ -429,7 +437,7 @@ abbrev pub TextAt : Rules ℕ Expression
 TextAt level = SpellsExpression level
 
 abbrev AfterText : Expression → Rules ℕ Expression
-AfterText e = λ _. Made (Perhaps (Mark terminal.Semicolon)) (λ _. e)
+AfterText e = λ _. Made (Perhaps (Mark (Of word.Semicolon))) (λ _. e)
 
 -- nothing but the end
 at_end_answers : (level : ℕ) (e : Expression) (ts : List Token)
@@ -447,39 +455,39 @@ at_end_answers level e ts = go (is terminal.End (head ts)) refl
         absurd (cc))
 
 abbrev MarkedText : Expression → Rules ℕ Expression
-MarkedText e = JoinedAt (MadeAt (MarkAt terminal.Semicolon) (λ _. e)) (λ a. GivesAt a)
+MarkedText e = JoinedAt (MadeAt (MarkAt (Of word.Semicolon)) (λ _. e)) (λ a. GivesAt a)
 
 abbrev FactoredText : Expression → Rules ℕ Expression
 FactoredText e = EitherAt (MarkedText e) (GivesAt e)
 
 to_text : (e : Expression) (m : ℕ) (text : List Token) (a : Expression) → FactoredText e m text a → AfterText e m text a
 to_text e m text a (inl j) =
-    let g = given (Mark terminal.Semicolon) (λ _. e) j.front j.value j.one in
+    let g = given (Mark (Of word.Semicolon)) (λ _. e) j.front j.value j.one in
     let same : text ≡ j.front = j.split ∙ ap (λ l. j.front ++ l) j.other.empty ∙ append-nil j.front in
     let value : e ≡ a = sym (j.other.same ∙ g.2) in
-    let word : Mark terminal.Semicolon text g.0 = subst (λ l. Mark terminal.Semicolon l g.0) (sym same) g.1 in
-    subst (λ x. AfterText e m text x) value (give (Perhaps (Mark terminal.Semicolon)) (λ _. e) text (Some g.0)
-    (inl (give (Mark terminal.Semicolon) Some text g.0 word)))
+    let mark : Mark (Of word.Semicolon) text g.0 = subst (λ l. Mark (Of word.Semicolon) l g.0) (sym same) g.1 in
+    subst (λ x. AfterText e m text x) value (give (Perhaps (Mark (Of word.Semicolon))) (λ _. e) text (Some g.0)
+    (inl (give (Mark (Of word.Semicolon)) Some text g.0 mark)))
 to_text e m text a (inr g) =
-    subst (λ x. AfterText e m text x) (sym g.same) (give (Perhaps (Mark terminal.Semicolon)) (λ _. e) text None
+    subst (λ x. AfterText e m text x) (sym g.same) (give (Perhaps (Mark (Of word.Semicolon))) (λ _. e) text None
     (inr (record { empty = g.empty; same = refl })))
 
 from_text : (e : Expression) (m : ℕ) (text : List Token) (a : Expression) → AfterText e m text a
     → FactoredText e m text a
 from_text e m text a h =
-    let g = given (Perhaps (Mark terminal.Semicolon)) (λ _. e) text a h in subst (λ x. FactoredText e m text x)
+    let g = given (Perhaps (Mark (Of word.Semicolon))) (λ _. e) text a h in subst (λ x. FactoredText e m text x)
     (sym g.2) (go g.0 g.1)
   where
-    go : (o : Option ℕ) → Perhaps (Mark terminal.Semicolon) text o → FactoredText e m text e
+    go : (o : Option ℕ) → Perhaps (Mark (Of word.Semicolon)) text o → FactoredText e m text e
     go o (inl h) =
-        let k = given (Mark terminal.Semicolon) Some text o h in
+        let k = given (Mark (Of word.Semicolon)) Some text o h in
         inl (record {
           front = text;
           back = [];
           value = e;
           split = sym (append-nil text);
           one = give
-              (Mark terminal.Semicolon) (λ _. e) text k.0 k.1;
+              (Mark (Of word.Semicolon)) (λ _. e) text k.0 k.1;
           other = record { empty = refl; same = refl };
         })
     go o (inr g) = inr (record { empty = g.empty; same = refl })
@@ -489,18 +497,18 @@ semicolon_answers : (level : ℕ) (e : Expression) (ts : List Token)
 unfolding semicolon
 semicolon_answers level e ts =
     equal_answers ◌≤◌ level_self (FactoredText e) (AfterText e) end_stop level ts (to_text e) (from_text e)
-    (cond (is terminal.Semicolon (head ts)) ((made (mark terminal.Semicolon) (λ _. e) >>= at_end) ts) (at_end e ts))
-    (either_answers ◌≤◌ level_self (MarkedText e) (GivesAt e) (is terminal.Semicolon) end_stop level ts
-    (joined_starts (MadeAt (MarkAt terminal.Semicolon) (λ _. e)) (λ a. GivesAt a) (is terminal.Semicolon)
-    (made_starts (MarkAt terminal.Semicolon) (λ _. e) (is terminal.Semicolon) (mark_starts terminal.Semicolon)))
-    (gives_apart e end_stop (is terminal.Semicolon) (mark_fails (is terminal.Semicolon) terminal.End refl))
-    ((made (mark terminal.Semicolon) (λ _. e) >>= at_end) ts) (at_end e ts)
-    (λ _. joined_answers ◌≤◌ level_self (MadeAt (MarkAt terminal.Semicolon) (λ _. e))
+    (cond (is (Of word.Semicolon) (head ts)) ((made (mark (Of word.Semicolon)) (λ _. e) >>= at_end) ts) (at_end e ts))
+    (either_answers ◌≤◌ level_self (MarkedText e) (GivesAt e) (is (Of word.Semicolon)) end_stop level ts
+    (joined_starts (MadeAt (MarkAt (Of word.Semicolon)) (λ _. e)) (λ a. GivesAt a) (is (Of word.Semicolon))
+    (made_starts (MarkAt (Of word.Semicolon)) (λ _. e) (is (Of word.Semicolon)) (mark_starts (Of word.Semicolon))))
+    (gives_apart e end_stop (is (Of word.Semicolon)) (mark_fails (is (Of word.Semicolon)) terminal.End refl))
+    ((made (mark (Of word.Semicolon)) (λ _. e) >>= at_end) ts) (at_end e ts)
+    (λ _. joined_answers ◌≤◌ level_self (MadeAt (MarkAt (Of word.Semicolon)) (λ _. e))
     (λ a. GivesAt a) Anything end_stop level ts (λ m a us b r h stops. refl)
-    (made (mark terminal.Semicolon) (λ _. e) ts) at_end
+    (made (mark (Of word.Semicolon)) (λ _. e) ts) at_end
     (λ m above a. ([], a, record { empty = refl; same = refl }))
-    (made_answers ◌≤◌ level_self (MarkAt terminal.Semicolon) (λ _. e) Anything Anything level ts (λ a s h. refl)
-    (mark terminal.Semicolon ts) (mark_answers ◌≤◌ level_self terminal.Semicolon Anything level ts))
+    (made_answers ◌≤◌ level_self (MarkAt (Of word.Semicolon)) (λ _. e) Anything Anything level ts (λ a s h. refl)
+    (mark (Of word.Semicolon) ts) (mark_answers ◌≤◌ level_self (Of word.Semicolon) Anything level ts))
     (λ a r _. at_end_answers level a r))
     (λ _. at_end_answers level e ts))
 
@@ -509,10 +517,10 @@ module _ (ends place_ends : Terminal → Bool) (known : AreRead ends place_ends)
   after_follows m e text a r h here = go (from_text e m text a h)
     where
       go : FactoredText e m text a → ends (head (text ++ r)) ≡ true
-      go (inl j) = mark_passes ends terminal.Semicolon (known.stops terminal.Semicolon refl) (head (text ++ r))
-          (begun (MarkedText e) (is terminal.Semicolon) (joined_starts (MadeAt (MarkAt terminal.Semicolon) (λ _. e))
-          (λ a. GivesAt a) (is terminal.Semicolon) (made_starts (MarkAt terminal.Semicolon) (λ _. e)
-          (is terminal.Semicolon) (mark_starts terminal.Semicolon))) m text r a j)
+      go (inl j) = mark_passes ends (Of word.Semicolon) (known.stops (Of word.Semicolon) refl) (head (text ++ r))
+          (begun (MarkedText e) (is (Of word.Semicolon)) (joined_starts (MadeAt (MarkAt (Of word.Semicolon)) (λ _. e))
+          (λ a. GivesAt a) (is (Of word.Semicolon)) (made_starts (MarkAt (Of word.Semicolon)) (λ _. e)
+          (is (Of word.Semicolon)) (mark_starts (Of word.Semicolon)))) m text r a j)
       go (inr g) =
           ap (λ l. ends (head (l ++ r))) g.empty
           ∙ mark_passes ends terminal.End (known.stops terminal.End refl) (head r) here
@@ -562,10 +570,10 @@ text_leaves_none level ts e r found = whole (reading level part.Whole ts) found
     marked a (Err x) found = absurd (cc)
 
     behind : (b : Bool) (a : Expression) (us : List Token)
-        → cond b ((made (mark terminal.Semicolon) (λ _. a) >>= at_end) us) (at_end a us) ≡ Ok (e, r) → r ≡ []
-    behind true a us found = marked a (mark terminal.Semicolon us) found
+        → cond b ((made (mark (Of word.Semicolon)) (λ _. a) >>= at_end) us) (at_end a us) ≡ Ok (e, r) → r ≡ []
+    behind true a us found = marked a (mark (Of word.Semicolon) us) found
     behind false a us found = ended (is terminal.End (head us)) a us refl found
 
     whole : (o : Outcome Expression) → and_then o semicolon ≡ Ok (e, r) → r ≡ []
-    whole (Ok p) found = behind (is terminal.Semicolon (head p.1)) p.0 p.1 found
+    whole (Ok p) found = behind (is (Of word.Semicolon) (head p.1)) p.0 p.1 found
     whole (Err x) found = absurd (cc)

@@ -7,8 +7,9 @@ use Rattle.dp_lexer.specs.declared.token.TokenKind.TheVariants as kind
 use Rattle.dp_parse.specs.declared.ended.Body.{Body}
 use Rattle.dp_parse.specs.declared.ended.Ended.{Ended}
 use Rattle.dp_expressions.specs.declared.operand.Part.TheVariants as part
+use Rattle.dp_token_rules.specs.declared.terminal.Terminal.TheVariants.{Of}
+use Rattle.dp_lexer.specs.declared.token.Word.TheVariants as word
 use Rattle.dp_token_rules.specs.declared.terminal.Terminal.{Terminal}
-use Rattle.dp_token_rules.specs.declared.terminal.Terminal.TheVariants as terminal
 use Rattle.dp_tree.specs.declared.tree.Arm.{Arm}
 use Rattle.dp_tree.specs.declared.tree.Binding.{Binding}
 use Rattle.dp_tree.specs.declared.tree.Expression.{Expression}
@@ -48,7 +49,7 @@ module _ (ends place_ends : Terminal → Bool) (known : AreRead ends place_ends)
   OneBody all = MadeAt (BodyAt loops) (λ b. all ++ b.statement ∷ [])
 
   abbrev CloseBodies : List Statement → Rules Depth (List Statement)
-  CloseBodies all = MadeAt (MarkAt terminal.CloseBrace) (λ _. all)
+  CloseBodies all = MadeAt (MarkAt (Of word.CloseBrace)) (λ _. all)
 
   abbrev between_bodies : List Statement → Terminal → Bool
   between_bodies all s = not (takes_else s)
@@ -58,20 +59,20 @@ module _ (ends place_ends : Terminal → Bool) (known : AreRead ends place_ends)
       made_starts (BodyAt loops) (λ b. all ++ b.statement ∷ []) begins_statement
       (body_starts ends place_ends known loops)
 
-  close_starts_brace : (all : List Statement) → StartsIn (CloseBodies all) (is terminal.CloseBrace)
+  close_starts_brace : (all : List Statement) → StartsIn (CloseBodies all) (is (Of word.CloseBrace))
   close_starts_brace all =
-      made_starts (MarkAt terminal.CloseBrace) (λ _. all) (is terminal.CloseBrace) (mark_starts terminal.CloseBrace)
+      made_starts (MarkAt (Of word.CloseBrace)) (λ _. all) (is (Of word.CloseBrace)) (mark_starts (Of word.CloseBrace))
 
   bodies_steps : 1 ≤ level.bodies → (all : List Statement) (ts : List Token)
       → Answers Deeper (StepAt OneBody CloseBodies all) (step_stop between_bodies Anything) level ts
       (bodies_step (body loops) all ts)
   bodies_steps some all ts =
-      end_first Deeper same_depth OneBody CloseBodies between_bodies Anything level all ts (is terminal.CloseBrace)
-      (made (body loops) (λ b. all ++ b.statement ∷ []) ts) (made (mark terminal.CloseBrace) (λ _. all) ts)
-      (close_starts_brace all) (starts_apart (OneBody all) between_bodies (is terminal.CloseBrace) begins_statement
-      (mark_apart begins_statement terminal.CloseBrace refl) (one_starts_body all))
-      (λ _. (made_reader 1 level (MarkAt terminal.CloseBrace) (λ _. all) Anything Anything (mark terminal.CloseBrace)
-      (λ a s e. refl) (mark_reader 1 level terminal.CloseBrace kind.CloseBrace refl)).answers some ts)
+      end_first Deeper same_depth OneBody CloseBodies between_bodies Anything level all ts (is (Of word.CloseBrace))
+      (made (body loops) (λ b. all ++ b.statement ∷ []) ts) (made (mark (Of word.CloseBrace)) (λ _. all) ts)
+      (close_starts_brace all) (starts_apart (OneBody all) between_bodies (is (Of word.CloseBrace)) begins_statement
+      (mark_apart begins_statement (Of word.CloseBrace) refl) (one_starts_body all))
+      (λ _. (made_reader 1 level (MarkAt (Of word.CloseBrace)) (λ _. all) Anything Anything (mark (Of word.CloseBrace))
+      (λ a s e. refl) (mark_reader 1 level (Of word.CloseBrace) (kind.Word word.CloseBrace) refl)).answers some ts)
       (λ _. (made_reader 1 level (BodyAt loops) (λ b. all ++ b.statement ∷ []) body_stop between_bodies (body loops)
       (λ b s e. open_ends_other b.is_open s (not_true (takes_else s) e)) (reads loops)).answers some ts)
 
@@ -81,24 +82,24 @@ module _ (ends place_ends : Terminal → Bool) (known : AreRead ends place_ends)
     answers = λ some. closed_answers Deeper same_depth OneBody CloseBodies between_bodies Anything level
         (λ all. starts_in_more (OneBody all) begins_statement (between_bodies all)
         (λ s e. ap not (statement_no_else s e)) (one_starts_body all))
-        (starts_follow between_bodies CloseBodies Anything (is terminal.CloseBrace)
-        (λ all s. mark_passes (between_bodies all) terminal.CloseBrace refl s) close_starts_brace)
+        (starts_follow between_bodies CloseBodies Anything (is (Of word.CloseBrace))
+        (λ all s. mark_passes (between_bodies all) (Of word.CloseBrace) refl s) close_starts_brace)
         (λ m above all. (
-          placed kind.CloseBrace
+          placed (kind.Word word.CloseBrace)
               ∷ [],
           all,
-          give (Mark terminal.CloseBrace) (λ _. all) (placed kind.CloseBrace ∷ []) 1
-              (mark_alone terminal.CloseBrace kind.CloseBrace refl),
+          give (Mark (Of word.CloseBrace)) (λ _. all) (placed (kind.Word word.CloseBrace) ∷ []) 1
+              (mark_alone (Of word.CloseBrace) (kind.Word word.CloseBrace) refl),
         ))
         (bodies_step (body loops)) (bodies_steps some) [];
     least =
         λ m some. (
-          placed kind.CloseBrace
+          placed (kind.Word word.CloseBrace)
               ∷ [],
           [],
-          closed_now OneBody CloseBodies m [] (placed kind.CloseBrace ∷ []) []
-              (give (Mark terminal.CloseBrace) (λ _. []) (placed kind.CloseBrace ∷ []) 1
-              (mark_alone terminal.CloseBrace kind.CloseBrace refl)),
+          closed_now OneBody CloseBodies m [] (placed (kind.Word word.CloseBrace) ∷ []) []
+              (give (Mark (Of word.CloseBrace)) (λ _. []) (placed (kind.Word word.CloseBrace) ∷ []) 1
+              (mark_alone (Of word.CloseBrace) (kind.Word word.CloseBrace) refl)),
         );
   }
 
@@ -107,18 +108,18 @@ module _ (ends place_ends : Terminal → Bool) (known : AreRead ends place_ends)
   braced_reader : IsPartReader 1 (BracedAt loops) ended_stop level (braced (body loops))
   unfolding braced
   braced_reader =
-      mark_then 1 level terminal.OpenBrace kind.OpenBrace refl
+      mark_then 1 level (Of word.OpenBrace) (kind.Word word.OpenBrace) refl
       (λ _. JoinedAt (BodiesAt loops) (λ all. GivesAt (whole (tree.Block all)))) ended_stop
       (λ _. bodies (body loops) >>= (λ all. gives (whole (tree.Block all))))
       (λ _. then_reader 1 level (BodiesAt loops) (λ all. GivesAt (whole (tree.Block all))) ended_stop
       (bodies (body loops)) (λ all. gives (whole (tree.Block all))) bodies_reader
       (λ all. gives_reader 1 level (whole (tree.Block all)) ended_stop))
 
-  pub block_answers : (ts : List Token) → is terminal.OpenBrace (head ts) ≡ true
+  pub block_answers : (ts : List Token) → is (Of word.OpenBrace) (head ts) ≡ true
       → Answers Deeper (StatementAt Block loops) ended_stop level ts (reader_at block loops level body ts)
   unfolding block
   block_answers ts here =
-      nests_reader terminal.OpenBrace (λ _. JoinedAt (BodiesAt loops) (λ all. GivesAt (whole (tree.Block all))))
+      nests_reader (Of word.OpenBrace) (λ _. JoinedAt (BodiesAt loops) (λ all. GivesAt (whole (tree.Block all))))
       ended_stop level (braced (body loops)) ts refl here braced_reader
       (λ line m some. let g = bodies_reader.least m some in (
         g.0,
@@ -131,56 +132,59 @@ module _ (ends place_ends : Terminal → Bool) (known : AreRead ends place_ends)
   unfolding on_its_line
   braced_line_answers some ts =
       online_answers Deeper same_depth (λ line. MadeAt (BracedAt loops) (stated line))
-      (is terminal.OpenBrace) body_stop level ts (λ line. made_starts (BracedAt loops) (stated line)
-      (is terminal.OpenBrace) (braced_starts ends place_ends known loops))
+      (is (Of word.OpenBrace)) body_stop level ts (λ line. made_starts (BracedAt loops) (stated line)
+      (is (Of word.OpenBrace)) (braced_starts ends place_ends known loops))
       (made (braced (body loops)) (stated (line_of ts)) ts)
       (made_answers Deeper same_depth (BracedAt loops) (stated (line_of ts)) ended_stop body_stop level ts (λ a s e. e)
       (braced (body loops) ts) (braced_reader.answers some ts))
 
   -- `{ }`
   least_braced : (m : Depth)
-      → BracedLineAt loops m (placed kind.OpenBrace ∷ (placed kind.CloseBrace ∷ [])) (stated 1 (whole (tree.Block [])))
+      → BracedLineAt loops m (placed (kind.Word word.OpenBrace) ∷ (placed (kind.Word word.CloseBrace) ∷ []))
+      (stated 1 (whole (tree.Block [])))
   least_braced m =
-      let close : List Token = placed kind.CloseBrace ∷ [] in
-      let text : List Token = placed kind.OpenBrace ∷ close in
+      let close : List Token = placed (kind.Word word.CloseBrace) ∷ [] in
+      let text : List Token = placed (kind.Word word.OpenBrace) ∷ close in
       let none : BodiesAt loops m close [] = closed_now OneBody CloseBodies m [] close []
-      (give (Mark terminal.CloseBrace) (λ _. []) close 1 (mark_alone terminal.CloseBrace kind.CloseBrace refl)) in
+      (give (Mark (Of word.CloseBrace)) (λ _. []) close 1
+      (mark_alone (Of word.CloseBrace) (kind.Word word.CloseBrace) refl)) in
       let braces : BracedAt loops m text (whole (tree.Block [])) = record {
-        front = placed kind.OpenBrace
+        front = placed (kind.Word word.OpenBrace)
             ∷ [];
         back = close;
         value = 1;
         split = refl;
-        one = mark_alone terminal.OpenBrace kind.OpenBrace refl;
+        one = mark_alone (Of word.OpenBrace) (kind.Word word.OpenBrace) refl;
         other =
             give (BodiesAt loops m) (λ all. whole (tree.Block all)) close [] none;
       } in
       record {
-        first = placed kind.OpenBrace;
+        first = placed (kind.Word word.OpenBrace);
         behind = close;
         begins = refl;
         spelled = give (BracedAt loops m)
             (stated 1) text (whole (tree.Block [])) braces;
       }
 
-  brace_apart : Apart (WithoutAt terminal.OpenBrace (BodyAt loops)) body_stop (is terminal.OpenBrace)
+  brace_apart : Apart (WithoutAt (Of word.OpenBrace) (BodyAt loops)) body_stop (is (Of word.OpenBrace))
   brace_apart m text b r h here =
       let s = body_starts ends place_ends known loops m text b h.spelled in
-      ap (λ l. is terminal.OpenBrace (head (l ++ r))) s.2 ∙ ap (λ l. is terminal.OpenBrace (head l)) (sym s.2) ∙ h.apart
+      ap (λ l. is (Of word.OpenBrace) (head (l ++ r))) s.2 ∙ ap (λ l. is (Of word.OpenBrace) (head l)) (sym s.2) ∙
+      h.apart
 
   pub head_reader : IsPartReader 1 (HeadBodyAt loops) body_stop level (head_body (body loops))
   unfolding head_body
   head_reader = record {
     answers =
-        λ some ts. either_answers Deeper same_depth (BracedLineAt loops) (WithoutAt terminal.OpenBrace (BodyAt loops))
-        (is terminal.OpenBrace) body_stop level ts (braced_line_starts ends place_ends known loops) brace_apart
+        λ some ts. either_answers Deeper same_depth (BracedLineAt loops) (WithoutAt (Of word.OpenBrace) (BodyAt loops))
+        (is (Of word.OpenBrace)) body_stop level ts (braced_line_starts ends place_ends known loops) brace_apart
         (on_its_line (braced (body loops)) ts) (body loops ts) (λ _. braced_line_answers some ts)
-        (λ none. without_answers Deeper same_depth terminal.OpenBrace (BodyAt loops) body_stop level ts refl none
+        (λ none. without_answers Deeper same_depth (Of word.OpenBrace) (BodyAt loops) body_stop level ts refl none
         (body loops ts) ((reads loops).answers some ts));
     least =
         λ m some. (
-          placed kind.OpenBrace
-              ∷ (placed kind.CloseBrace ∷ []),
+          placed (kind.Word word.OpenBrace)
+              ∷ (placed (kind.Word word.CloseBrace) ∷ []),
           stated 1 (whole (tree.Block [])),
           inl (least_braced m),
         );
@@ -225,56 +229,56 @@ module _ (ends place_ends : Terminal → Bool) (known : AreRead ends place_ends)
 
   -- what is behind an `else`
   abbrev ElseAt : List Arm → Rules Depth Ended
-  ElseAt before = MadeAt (WithoutAt terminal.If (HeadBodyAt loops)) (with_else before)
+  ElseAt before = MadeAt (WithoutAt (Of word.If) (HeadBodyAt loops)) (with_else before)
 
   abbrev GoOnAt : List Arm → ℕ → Rules Depth (ControlFlow Ended Arms)
-  GoOnAt before line = MadeAt (JoinedAt (MarkAt terminal.If) (λ _. ArmAt before line)) Continue
+  GoOnAt before line = MadeAt (JoinedAt (MarkAt (Of word.If)) (λ _. ArmAt before line)) Continue
 
   abbrev BehindAt : List Arm → ℕ → Rules Depth (ControlFlow Ended Arms)
   BehindAt before line = EitherAt (GoOnAt before line) (MadeAt (ElseAt before) Break)
 
-  go_on_starts : (before : List Arm) (line : ℕ) → StartsIn (GoOnAt before line) (is terminal.If)
+  go_on_starts : (before : List Arm) (line : ℕ) → StartsIn (GoOnAt before line) (is (Of word.If))
   go_on_starts before line =
-      made_starts (JoinedAt (MarkAt terminal.If) (λ _. ArmAt before line)) Continue (is terminal.If)
-      (joined_starts (MarkAt terminal.If) (λ _. ArmAt before line) (is terminal.If) (mark_starts terminal.If))
+      made_starts (JoinedAt (MarkAt (Of word.If)) (λ _. ArmAt before line)) Continue (is (Of word.If))
+      (joined_starts (MarkAt (Of word.If)) (λ _. ArmAt before line) (is (Of word.If)) (mark_starts (Of word.If)))
 
   -- what is behind an `else` that no `if` follows begins with no `if`
   else_apart : (before : List Arm)
-      → Apart (MadeAt (ElseAt before) Break) (step_stop arms_stop ended_stop) (is terminal.If)
+      → Apart (MadeAt (ElseAt before) Break) (step_stop arms_stop ended_stop) (is (Of word.If))
   else_apart before m text v r h here =
       let e = given (ElseAt before m) Break text v h in
-      let b = given (Without terminal.If (HeadBodyAt loops m)) (with_else before) text e.0 e.1 in
+      let b = given (Without (Of word.If) (HeadBodyAt loops m)) (with_else before) text e.0 e.1 in
       let s = head_starts ends place_ends known loops m text b.0 b.1.spelled in
-      ap (λ l. is terminal.If (head (l ++ r))) s.2 ∙ ap (λ l. is terminal.If (head l)) (sym s.2) ∙ b.1.apart
+      ap (λ l. is (Of word.If) (head (l ++ r))) s.2 ∙ ap (λ l. is (Of word.If) (head l)) (sym s.2) ∙ b.1.apart
 
   behind_answers : 1 ≤ level.bodies → (before : List Arm) (line : ℕ) (ts : List Token)
       → Answers Deeper (BehindAt before line) (step_stop arms_stop ended_stop) level ts
       (reader_at behind_else loops level body before line ts)
   unfolding behind_else otherwise
   behind_answers some before line ts =
-      either_answers Deeper same_depth (GoOnAt before line) (MadeAt (ElseAt before) Break) (is terminal.If)
+      either_answers Deeper same_depth (GoOnAt before line) (MadeAt (ElseAt before) Break) (is (Of word.If))
       (step_stop arms_stop ended_stop) level ts (go_on_starts before line) (else_apart before)
-      (made (mark terminal.If >> reader_at next_arm loops level body before line) Continue ts)
+      (made (mark (Of word.If) >> reader_at next_arm loops level body before line) Continue ts)
       (made (made (head_body (body loops)) (with_else before)) Break ts)
-      (λ _. (made_reader 1 level (JoinedAt (MarkAt terminal.If) (λ _. ArmAt before line)) Continue arms_stop
-      (step_stop arms_stop ended_stop) (mark terminal.If >> reader_at next_arm loops level body before line)
+      (λ _. (made_reader 1 level (JoinedAt (MarkAt (Of word.If)) (λ _. ArmAt before line)) Continue arms_stop
+      (step_stop arms_stop ended_stop) (mark (Of word.If) >> reader_at next_arm loops level body before line)
       (λ a s e. e)
-      (mark_then 1 level terminal.If kind.If refl (λ _. ArmAt before line) arms_stop
+      (mark_then 1 level (Of word.If) (kind.Word word.If) refl (λ _. ArmAt before line) arms_stop
       (λ _. reader_at next_arm loops level body before line) (λ _. arm_reader before line))).answers some ts)
       (λ none. made_answers Deeper same_depth (ElseAt before) Break ended_stop (step_stop arms_stop ended_stop) level ts
       (λ a s e. e) (made (head_body (body loops)) (with_else before) ts)
-      (made_answers Deeper same_depth (WithoutAt terminal.If (HeadBodyAt loops))
+      (made_answers Deeper same_depth (WithoutAt (Of word.If) (HeadBodyAt loops))
       (with_else before) body_stop ended_stop level ts (λ b s e. e) (head_body (body loops) ts)
-      (without_answers Deeper same_depth terminal.If (HeadBodyAt loops) body_stop level ts refl none
+      (without_answers Deeper same_depth (Of word.If) (HeadBodyAt loops) body_stop level ts refl none
       (head_body (body loops) ts) ((heads loops).answers some ts))))
 
   -- ---- one step of the arms: the grammar's, and that of the reader, which reads an `else` before it looks further
 
   abbrev WordAt : List Arm → Rules Depth (ControlFlow Ended Arms)
-  WordAt before = MadeAt (JoinedAt (MarkAt terminal.ElseIf) (ArmAt before)) Continue
+  WordAt before = MadeAt (JoinedAt (MarkAt (Of word.ElseIf)) (ArmAt before)) Continue
 
   abbrev AfterElseAt : List Arm → Rules Depth (ControlFlow Ended Arms)
-  AfterElseAt before = JoinedAt (MarkAt terminal.Else) (BehindAt before)
+  AfterElseAt before = JoinedAt (MarkAt (Of word.Else)) (BehindAt before)
 
   abbrev NoneAt : Arms → Rules Depth (ControlFlow Ended Arms)
   NoneAt a = GivesAt (Break (without_else a))
@@ -288,9 +292,9 @@ module _ (ends place_ends : Terminal → Bool) (known : AreRead ends place_ends)
 
   -- `else` and `if` are one word of the grammar
   two_words : (before : List Arm) (m : Depth) (text front back : List Token) (line : ℕ) (x : Arms)
-      → text ≡ front ++ back → Mark terminal.Else front line
-      → Joined (Mark terminal.If) (λ _. ArmAt before line m) back x → Joined ElseIf (λ n. ArmAt before n m) text x
-  two_words before m text front back line x split word j = record {
+      → text ≡ front ++ back → Mark (Of word.Else) front line
+      → Joined (Mark (Of word.If)) (λ _. ArmAt before line m) back x → Joined ElseIf (λ n. ArmAt before n m) text x
+  two_words before m text front back line x split mark j = record {
     front = front ++ j.front;
     back = j.back;
     value = line;
@@ -300,9 +304,9 @@ module _ (ends place_ends : Terminal → Bool) (known : AreRead ends place_ends)
       back = j.front;
       value = line;
       split = refl;
-      one = word;
+      one = mark;
       other = give
-          (Mark terminal.If) (λ _. line) j.front j.value j.one;
+          (Mark (Of word.If)) (λ _. line) j.front j.value j.one;
     });
     other = j.other;
   }
@@ -310,7 +314,7 @@ module _ (ends place_ends : Terminal → Bool) (known : AreRead ends place_ends)
   to_step : (a : Arms) → not a.1 ≡ true → (m : Depth) (text : List Token) (v : ControlFlow Ended Arms)
       → FactoredAt a m text v → StepAt NextAt LastAt a m text v
   to_step a closed m text v (inl h) =
-      let g = given (Joined (Mark terminal.ElseIf) (λ line. ArmAt a.0 line m)) Continue text v h in
+      let g = given (Joined (Mark (Of word.ElseIf)) (λ line. ArmAt a.0 line m)) Continue text v h in
       let j = g.1 in
       subst (λ x. StepAt NextAt LastAt a m text x) (sym g.2) (to_next a closed m text g.0
       (record {
@@ -325,7 +329,7 @@ module _ (ends place_ends : Terminal → Bool) (known : AreRead ends place_ends)
     where
       go : BehindAt a.0 j.value m j.back v → StepAt NextAt LastAt a m text v
       go (inl h) =
-          let g = given (Joined (Mark terminal.If) (λ _. ArmAt a.0 j.value m)) Continue j.back v h in
+          let g = given (Joined (Mark (Of word.If)) (λ _. ArmAt a.0 j.value m)) Continue j.back v h in
           subst (λ x. StepAt NextAt LastAt a m text x) (sym g.2)
           (to_next a closed m text g.0 (two_words a.0 m text j.front j.back j.value g.0 j.split j.one g.1))
       go (inr h) =
@@ -350,12 +354,12 @@ module _ (ends place_ends : Terminal → Bool) (known : AreRead ends place_ends)
   from_next : (a : Arms) (m : Depth) (text : List Token) (x : Arms)
       → (j : Joined ElseIf (λ line. ArmAt a.0 line m) text x) → ElseIf j.front j.value
       → FactoredAt a m text (Continue x)
-  from_next a m text x j (inl word) =
-      inl (give (Joined (Mark terminal.ElseIf) (λ line. ArmAt a.0 line m)) Continue text x
-      (record { front = j.front; back = j.back; value = j.value; split = j.split; one = word; other = j.other }))
+  from_next a m text x j (inl mark) =
+      inl (give (Joined (Mark (Of word.ElseIf)) (λ line. ArmAt a.0 line m)) Continue text x
+      (record { front = j.front; back = j.back; value = j.value; split = j.split; one = mark; other = j.other }))
   from_next a m text x j (inr words) =
-      let g = given (Mark terminal.If) (λ _. words.value) words.back j.value words.other in
-      let arm : Joined (Mark terminal.If) (λ _. ArmAt a.0 words.value m) (words.back ++ j.back) x = record {
+      let g = given (Mark (Of word.If)) (λ _. words.value) words.back j.value words.other in
+      let arm : Joined (Mark (Of word.If)) (λ _. ArmAt a.0 words.value m) (words.back ++ j.back) x = record {
         front = words.back;
         back = j.back;
         value = g.0;
@@ -371,7 +375,8 @@ module _ (ends place_ends : Terminal → Bool) (known : AreRead ends place_ends)
         split = j.split ∙ ap (λ l. l ++ j.back) words.split ∙ append_assoc words.front words.back j.back;
         one = words.one;
         other =
-            inl (give (Joined (Mark terminal.If) (λ _. ArmAt a.0 words.value m)) Continue (words.back ++ j.back) x arm);
+            inl (give (Joined (Mark (Of word.If)) (λ _. ArmAt a.0 words.value m)) Continue (words.back ++ j.back) x
+            arm);
       }))
 
   from_last : (a : Arms) (m : Depth) (text : List Token) (x : Ended) → LastAt a m text x → FactoredAt a m text (Break x)
@@ -416,14 +421,14 @@ module _ (ends place_ends : Terminal → Bool) (known : AreRead ends place_ends)
       subst (λ x. StepAt NextAt LastAt a m text x) (sym g.same)
       (inl (give (LastAt a m) Break text (without_else a) (inr (record { empty = g.empty; same = refl }))))
 
-  word_starts : (before : List Arm) → StartsIn (WordAt before) (is terminal.ElseIf)
+  word_starts : (before : List Arm) → StartsIn (WordAt before) (is (Of word.ElseIf))
   word_starts before =
-      made_starts (JoinedAt (MarkAt terminal.ElseIf) (ArmAt before)) Continue (is terminal.ElseIf)
-      (joined_starts (MarkAt terminal.ElseIf) (ArmAt before) (is terminal.ElseIf) (mark_starts terminal.ElseIf))
+      made_starts (JoinedAt (MarkAt (Of word.ElseIf)) (ArmAt before)) Continue (is (Of word.ElseIf))
+      (joined_starts (MarkAt (Of word.ElseIf)) (ArmAt before) (is (Of word.ElseIf)) (mark_starts (Of word.ElseIf)))
 
-  after_else_starts : (before : List Arm) → StartsIn (AfterElseAt before) (is terminal.Else)
+  after_else_starts : (before : List Arm) → StartsIn (AfterElseAt before) (is (Of word.Else))
   after_else_starts before =
-      joined_starts (MarkAt terminal.Else) (BehindAt before) (is terminal.Else) (mark_starts terminal.Else)
+      joined_starts (MarkAt (Of word.Else)) (BehindAt before) (is (Of word.Else)) (mark_starts (Of word.Else))
 
   none_apart : (a : Arms) (test : Terminal → Bool) → ((x : Terminal) → test x ≡ true → takes_else x ≡ true)
       → Apart (NoneAt a) (step_stop arms_stop ended_stop) test
@@ -434,35 +439,35 @@ module _ (ends place_ends : Terminal → Bool) (known : AreRead ends place_ends)
   least_arm : (m : Depth) → 1 ≤ m.bodies → (before : List Arm) (line : ℕ)
       → (ts : List Token) × (v : ControlFlow Ended Arms) × BehindAt before line m ts v
   least_arm m some before line =
-      let g = (mark_then 1 level terminal.If kind.If refl (λ _. ArmAt before line) arms_stop
+      let g = (mark_then 1 level (Of word.If) (kind.Word word.If) refl (λ _. ArmAt before line) arms_stop
       (λ _. reader_at next_arm loops level body before line) (λ _. arm_reader before line)).least m some in
-      (g.0, Continue g.1, inl (give (Joined (Mark terminal.If) (λ _. ArmAt before line m)) Continue g.0 g.1 g.2))
+      (g.0, Continue g.1, inl (give (Joined (Mark (Of word.If)) (λ _. ArmAt before line m)) Continue g.0 g.1 g.2))
 
   factored_answers : 1 ≤ level.bodies → (a : Arms) (ts : List Token)
       → Answers Deeper (FactoredAt a) (step_stop arms_stop ended_stop) level ts
-      (cond (is terminal.ElseIf (head ts)) (made (mark terminal.ElseIf >>= reader_at next_arm loops level body a.0)
-      Continue ts) (cond (is terminal.Else (head ts)) ((mark terminal.Else
+      (cond (is (Of word.ElseIf) (head ts)) (made (mark (Of word.ElseIf) >>= reader_at next_arm loops level body a.0)
+      Continue ts) (cond (is (Of word.Else) (head ts)) ((mark (Of word.Else)
       >>= reader_at behind_else loops level body a.0) ts) (Ok (Break (without_else a), ts))))
   factored_answers some a ts =
-      either_answers Deeper same_depth (WordAt a.0) (EitherAt (AfterElseAt a.0) (NoneAt a)) (is terminal.ElseIf)
+      either_answers Deeper same_depth (WordAt a.0) (EitherAt (AfterElseAt a.0) (NoneAt a)) (is (Of word.ElseIf))
       (step_stop arms_stop ended_stop) level ts (word_starts a.0)
-      (either_apart (AfterElseAt a.0) (NoneAt a) (step_stop arms_stop ended_stop) (is terminal.ElseIf)
-      (starts_apart (AfterElseAt a.0) (step_stop arms_stop ended_stop) (is terminal.ElseIf) (is terminal.Else)
-      (mark_fails (is terminal.ElseIf) terminal.Else refl) (after_else_starts a.0))
-      (none_apart a (is terminal.ElseIf) (λ x. or_right (is terminal.Else x) (is terminal.ElseIf x))))
-      (made (mark terminal.ElseIf >>= reader_at next_arm loops level body a.0) Continue ts)
-      (cond (is terminal.Else (head ts)) ((mark terminal.Else >>= reader_at behind_else loops level body a.0) ts)
+      (either_apart (AfterElseAt a.0) (NoneAt a) (step_stop arms_stop ended_stop) (is (Of word.ElseIf))
+      (starts_apart (AfterElseAt a.0) (step_stop arms_stop ended_stop) (is (Of word.ElseIf)) (is (Of word.Else))
+      (mark_fails (is (Of word.ElseIf)) (Of word.Else) refl) (after_else_starts a.0))
+      (none_apart a (is (Of word.ElseIf)) (λ x. or_right (is (Of word.Else) x) (is (Of word.ElseIf) x))))
+      (made (mark (Of word.ElseIf) >>= reader_at next_arm loops level body a.0) Continue ts)
+      (cond (is (Of word.Else) (head ts)) ((mark (Of word.Else) >>= reader_at behind_else loops level body a.0) ts)
       (Ok (Break (without_else a), ts)))
-      (λ _. (made_reader 1 level (JoinedAt (MarkAt terminal.ElseIf) (ArmAt a.0)) Continue arms_stop
-      (step_stop arms_stop ended_stop) (mark terminal.ElseIf >>= reader_at next_arm loops level body a.0)
+      (λ _. (made_reader 1 level (JoinedAt (MarkAt (Of word.ElseIf)) (ArmAt a.0)) Continue arms_stop
+      (step_stop arms_stop ended_stop) (mark (Of word.ElseIf) >>= reader_at next_arm loops level body a.0)
       (λ x s e. e)
-      (mark_then 1 level terminal.ElseIf kind.ElseIf refl (ArmAt a.0) arms_stop
+      (mark_then 1 level (Of word.ElseIf) (kind.Word word.ElseIf) refl (ArmAt a.0) arms_stop
       (reader_at next_arm loops level body a.0) (arm_reader a.0))).answers some ts)
-      (λ _. either_answers Deeper same_depth (AfterElseAt a.0) (NoneAt a) (is terminal.Else)
+      (λ _. either_answers Deeper same_depth (AfterElseAt a.0) (NoneAt a) (is (Of word.Else))
       (step_stop arms_stop ended_stop) level ts (after_else_starts a.0)
-      (none_apart a (is terminal.Else) (λ x. or_left (is terminal.Else x) (is terminal.ElseIf x)))
-      ((mark terminal.Else >>= reader_at behind_else loops level body a.0) ts) (Ok (Break (without_else a), ts))
-      (λ _. (mark_then 1 level terminal.Else kind.Else refl (BehindAt a.0) (step_stop arms_stop ended_stop)
+      (none_apart a (is (Of word.Else)) (λ x. or_left (is (Of word.Else) x) (is (Of word.ElseIf) x)))
+      ((mark (Of word.Else) >>= reader_at behind_else loops level body a.0) ts) (Ok (Break (without_else a), ts))
+      (λ _. (mark_then 1 level (Of word.Else) (kind.Word word.Else) refl (BehindAt a.0) (step_stop arms_stop ended_stop)
       (reader_at behind_else loops level body a.0)
       (λ line. record {
         answers = λ more. behind_answers more a.0 line;
@@ -477,10 +482,10 @@ module _ (ends place_ends : Terminal → Bool) (known : AreRead ends place_ends)
     where
       go : (b : Bool) → a.1 ≡ b → Answers Deeper (StepAt NextAt LastAt a) (step_stop arms_stop ended_stop) level ts
           (cond (not b
-          && is terminal.ElseIf (head ts)) (made (mark terminal.ElseIf >>= reader_at next_arm loops level body a.0)
+          && is (Of word.ElseIf) (head ts)) (made (mark (Of word.ElseIf) >>= reader_at next_arm loops level body a.0)
           Continue ts)
           (cond (not b
-          && is terminal.Else (head ts)) ((mark terminal.Else >>= reader_at behind_else loops level body a.0) ts)
+          && is (Of word.Else) (head ts)) ((mark (Of word.Else) >>= reader_at behind_else loops level body a.0) ts)
           (Ok (Break (without_else a), ts))))
       go true is_open =
           equal_answers Deeper same_depth (NoneAt a) (StepAt NextAt LastAt a) (step_stop arms_stop ended_stop) level ts
@@ -489,9 +494,10 @@ module _ (ends place_ends : Terminal → Bool) (known : AreRead ends place_ends)
       go false is_closed =
           equal_answers Deeper same_depth (FactoredAt a) (StepAt NextAt LastAt a)
           (step_stop arms_stop ended_stop) level ts (to_step a (ap not is_closed)) (from_step a)
-          (cond (is terminal.ElseIf (head ts)) (made (mark terminal.ElseIf >>= reader_at next_arm loops level body a.0)
-          Continue ts) (cond (is terminal.Else (head ts))
-          ((mark terminal.Else >>= reader_at behind_else loops level body a.0) ts)
+          (cond (is (Of word.ElseIf) (head ts)) (made (mark (Of word.ElseIf) >>= reader_at next_arm loops level body
+          a.0)
+          Continue ts) (cond (is (Of word.Else) (head ts))
+          ((mark (Of word.Else) >>= reader_at behind_else loops level body a.0) ts)
           (Ok (Break (without_else a), ts))))
           (factored_answers some a ts)
 
@@ -499,14 +505,14 @@ module _ (ends place_ends : Terminal → Bool) (known : AreRead ends place_ends)
 
   else_if_starts : StartsIn {L = Depth} (λ _. ElseIf) takes_else
   else_if_starts =
-      either_starts (MarkAt terminal.ElseIf) (JoinedAt (MarkAt terminal.Else)
-      (λ line. MadeAt (MarkAt terminal.If) (λ _. line))) takes_else
-      (starts_in_more (MarkAt terminal.ElseIf) (is terminal.ElseIf) takes_else
-      (λ s. or_right (is terminal.Else s) (is terminal.ElseIf s)) (mark_starts terminal.ElseIf))
-      (starts_in_more (JoinedAt (MarkAt terminal.Else) (λ line. MadeAt (MarkAt terminal.If) (λ _. line)))
-      (is terminal.Else) takes_else (λ s. or_left (is terminal.Else s) (is terminal.ElseIf s))
-      (joined_starts (MarkAt terminal.Else) (λ line. MadeAt (MarkAt terminal.If) (λ _. line)) (is terminal.Else)
-      (mark_starts terminal.Else)))
+      either_starts (MarkAt (Of word.ElseIf)) (JoinedAt (MarkAt (Of word.Else))
+      (λ line. MadeAt (MarkAt (Of word.If)) (λ _. line))) takes_else
+      (starts_in_more (MarkAt (Of word.ElseIf)) (is (Of word.ElseIf)) takes_else
+      (λ s. or_right (is (Of word.Else) s) (is (Of word.ElseIf) s)) (mark_starts (Of word.ElseIf)))
+      (starts_in_more (JoinedAt (MarkAt (Of word.Else)) (λ line. MadeAt (MarkAt (Of word.If)) (λ _. line)))
+      (is (Of word.Else)) takes_else (λ s. or_left (is (Of word.Else) s) (is (Of word.ElseIf) s))
+      (joined_starts (MarkAt (Of word.Else)) (λ line. MadeAt (MarkAt (Of word.If)) (λ _. line)) (is (Of word.Else))
+      (mark_starts (Of word.Else))))
 
   -- behind a body that is not open, any token may come
   closed_ends : (b : Bool) (s : Terminal) → not b ≡ true → open_ends b s ≡ true
@@ -546,11 +552,11 @@ module _ (ends place_ends : Terminal → Bool) (known : AreRead ends place_ends)
         );
   }
 
-  pub if_answers : (ts : List Token) → is terminal.If (head ts) ≡ true
+  pub if_answers : (ts : List Token) → is (Of word.If) (head ts) ≡ true
       → Answers Deeper (StatementAt If loops) ended_stop level ts (reader_at if_rule loops level body ts)
   unfolding if_rule
   if_answers ts here =
-      keyword_nests terminal.If kind.If refl (λ line. JoinedAt (ArmAt [] line) ArmsAt) ended_stop level
+      keyword_nests (Of word.If) (kind.Word word.If) refl (λ line. JoinedAt (ArmAt [] line) ArmsAt) ended_stop level
       (λ line. reader_at next_arm loops level body [] line >>= reader_at arms loops level body) ts refl here
       (λ line. joined_reader 1 level (ArmAt [] line) ArmsAt arms_stop ended_stop
       (reader_at next_arm loops level body [] line) (reader_at arms loops level body) arms_follow
@@ -568,11 +574,11 @@ module _ (ends place_ends : Terminal → Bool) (known : AreRead ends place_ends)
       made_reader 1 level (HeadBodyAt (suc loops)) (λ b. ended (of b.statement) b.is_open) body_stop ended_stop
       (head_body (body (suc loops))) (λ b s e. e) (heads (suc loops))
 
-  pub while_answers : (ts : List Token) → is terminal.While (head ts) ≡ true
+  pub while_answers : (ts : List Token) → is (Of word.While) (head ts) ≡ true
       → Answers Deeper (StatementAt While loops) ended_stop level ts (reader_at while_rule loops level body ts)
   unfolding while_rule
   while_answers ts here =
-      keyword_nests terminal.While kind.While refl (λ _. JoinedAt (StatementAt Test loops)
+      keyword_nests (Of word.While) (kind.Word word.While) refl (λ _. JoinedAt (StatementAt Test loops)
       (λ found. LoopBodyAt (λ b. tree.While found b))) ended_stop level
       (λ _. reader_at head_test loops level body
       >>= (λ found. reader_at loop_body loops level body (λ b. tree.While found b))) ts refl here
@@ -583,33 +589,34 @@ module _ (ends place_ends : Terminal → Bool) (known : AreRead ends place_ends)
 
   abbrev AfterBodyAt : Body → ℕ → Rules Depth Ended
   AfterBodyAt b line =
-      JoinedAt (StatementAt Test loops) (λ found. JoinedAt (MarkAt terminal.Semicolon)
+      JoinedAt (StatementAt Test loops) (λ found. JoinedAt (MarkAt (Of word.Semicolon))
       (λ _. GivesAt (whole (tree.DoWhile b.statement line found))))
 
   after_body : Body → ℕ → Reader Ended
   after_body b line =
       reader_at head_test loops level body
-      >>= (λ found. mark terminal.Semicolon >> gives (whole (tree.DoWhile b.statement line found)))
+      >>= (λ found. mark (Of word.Semicolon) >> gives (whole (tree.DoWhile b.statement line found)))
 
   after_body_reader : (b : Body) (line : ℕ) → IsPartReader 1 (AfterBodyAt b line) ended_stop level (after_body b line)
   unfolding after_body
   after_body_reader b line =
-      before_mark 1 level (StatementAt Test loops) Anything terminal.Semicolon kind.Semicolon refl (λ a. refl)
+      before_mark 1 level (StatementAt Test loops) Anything (Of word.Semicolon) (kind.Word word.Semicolon) refl
+      (λ a. refl)
       (λ found _. GivesAt (whole (tree.DoWhile b.statement line found))) ended_stop
       (reader_at head_test loops level body)
       (λ found _. gives (whole (tree.DoWhile b.statement line found)))
       (test_reader 1 level loops body ends place_ends known)
       (λ found _. gives_reader 1 level (whole (tree.DoWhile b.statement line found)) ended_stop)
 
-  pub do_while_answers : (ts : List Token) → is terminal.Do (head ts) ≡ true
+  pub do_while_answers : (ts : List Token) → is (Of word.Do) (head ts) ≡ true
       → Answers Deeper (StatementAt DoWhile loops) ended_stop level ts (reader_at do_while loops level body ts)
   unfolding do_while after_body
   do_while_answers ts here =
-      keyword_nests terminal.Do kind.Do refl (λ _. JoinedAt (HeadBodyAt (suc loops))
-      (λ b. JoinedAt (MarkAt terminal.While) (AfterBodyAt b))) ended_stop level
-      (λ _. head_body (body (suc loops)) >>= (λ b. mark terminal.While >>= after_body b)) ts refl here
-      (λ _. before_mark 1 level (HeadBodyAt (suc loops)) body_stop terminal.While kind.While refl
-      (λ b. open_ends_other b.is_open terminal.While refl) AfterBodyAt ended_stop
+      keyword_nests (Of word.Do) (kind.Word word.Do) refl (λ _. JoinedAt (HeadBodyAt (suc loops))
+      (λ b. JoinedAt (MarkAt (Of word.While)) (AfterBodyAt b))) ended_stop level
+      (λ _. head_body (body (suc loops)) >>= (λ b. mark (Of word.While) >>= after_body b)) ts refl here
+      (λ _. before_mark 1 level (HeadBodyAt (suc loops)) body_stop (Of word.While) (kind.Word word.While) refl
+      (λ b. open_ends_other b.is_open (Of word.While) refl) AfterBodyAt ended_stop
       (head_body (body (suc loops))) after_body (heads (suc loops)) after_body_reader)
 
   -- ---- for
@@ -620,54 +627,58 @@ module _ (ends place_ends : Terminal → Bool) (known : AreRead ends place_ends)
   abbrev expressions : Terminal → Reader (List Expression)
   expressions close = any_plain_items (λ _. reading level.expressions part.Whole) close
 
-  up_to_semicolon : IsPartReader 1 (ExpressionsAt terminal.Semicolon) Anything level (expressions terminal.Semicolon)
+  up_to_semicolon : IsPartReader 1 (ExpressionsAt (Of word.Semicolon)) Anything level (expressions (Of word.Semicolon))
   up_to_semicolon =
-      any_expressions 1 level loops body ends place_ends known terminal.Semicolon kind.Semicolon refl refl refl refl
+      any_expressions 1 level loops body ends place_ends known (Of word.Semicolon) (kind.Word word.Semicolon) refl refl
+      refl refl
 
-  up_to_close : IsPartReader 1 (ExpressionsAt terminal.CloseParenthesis) Anything level
-      (expressions terminal.CloseParenthesis)
+  up_to_close : IsPartReader 1 (ExpressionsAt (Of word.CloseParenthesis)) Anything level
+      (expressions (Of word.CloseParenthesis))
   up_to_close =
-      any_expressions 1 level loops body ends place_ends known terminal.CloseParenthesis kind.CloseParenthesis refl refl
+      any_expressions 1 level loops body ends place_ends known (Of word.CloseParenthesis)
+      (kind.Word word.CloseParenthesis) refl refl
       refl refl
 
   abbrev AfterTestsAt : List Expression → List Expression → Rules Depth Ended
   AfterTestsAt before tests =
-      JoinedAt (ExpressionsAt terminal.CloseParenthesis) (λ after. LoopBodyAt (λ b. tree.For before tests after b))
+      JoinedAt (ExpressionsAt (Of word.CloseParenthesis)) (λ after. LoopBodyAt (λ b. tree.For before tests after b))
 
   abbrev after_tests : List Expression → List Expression → Reader Ended
   after_tests before tests =
-      expressions terminal.CloseParenthesis
+      expressions (Of word.CloseParenthesis)
       >>= (λ after. reader_at loop_body loops level body (λ b. tree.For before tests after b))
 
   after_tests_reader : (before tests : List Expression)
       → IsPartReader 1 (AfterTestsAt before tests) ended_stop level (after_tests before tests)
   after_tests_reader before tests =
-      then_reader 1 level (ExpressionsAt terminal.CloseParenthesis)
-      (λ after. LoopBodyAt (λ b. tree.For before tests after b)) ended_stop (expressions terminal.CloseParenthesis)
+      then_reader 1 level (ExpressionsAt (Of word.CloseParenthesis))
+      (λ after. LoopBodyAt (λ b. tree.For before tests after b)) ended_stop (expressions (Of word.CloseParenthesis))
       (λ after. reader_at loop_body loops level body (λ b. tree.For before tests after b)) up_to_close
       (λ after. loop_body_reader (λ b. tree.For before tests after b))
 
   abbrev AfterBeforeAt : List Expression → Rules Depth Ended
-  AfterBeforeAt before = JoinedAt (ExpressionsAt terminal.Semicolon) (AfterTestsAt before)
+  AfterBeforeAt before = JoinedAt (ExpressionsAt (Of word.Semicolon)) (AfterTestsAt before)
 
   after_before_reader : (before : List Expression)
-      → IsPartReader 1 (AfterBeforeAt before) ended_stop level (expressions terminal.Semicolon >>= after_tests before)
+      → IsPartReader 1 (AfterBeforeAt before) ended_stop level (expressions (Of word.Semicolon) >>= after_tests before)
   after_before_reader before =
-      then_reader 1 level (ExpressionsAt terminal.Semicolon) (AfterTestsAt before) ended_stop
-      (expressions terminal.Semicolon) (after_tests before) up_to_semicolon (after_tests_reader before)
+      then_reader 1 level (ExpressionsAt (Of word.Semicolon)) (AfterTestsAt before) ended_stop
+      (expressions (Of word.Semicolon)) (after_tests before) up_to_semicolon (after_tests_reader before)
 
-  pub for_answers : (ts : List Token) → is terminal.For (head ts) ≡ true
+  pub for_answers : (ts : List Token) → is (Of word.For) (head ts) ≡ true
       → Answers Deeper (StatementAt For loops) ended_stop level ts (reader_at for_rule loops level body ts)
   unfolding for_rule
   for_answers ts here =
-      let rest : Rules Depth Ended = JoinedAt (ExpressionsAt terminal.Semicolon) AfterBeforeAt in
-      let read : Reader Ended = expressions terminal.Semicolon
-      >>= (λ before. expressions terminal.Semicolon >>= after_tests before) in
-      keyword_nests terminal.For kind.For refl (λ _. JoinedAt (MarkAt terminal.OpenParenthesis) (λ _. rest)) ended_stop
-      level (λ _. mark terminal.OpenParenthesis >> read) ts refl here
-      (λ _. mark_then 1 level terminal.OpenParenthesis kind.OpenParenthesis refl (λ _. rest) ended_stop (λ _. read)
-      (λ _. then_reader 1 level (ExpressionsAt terminal.Semicolon) AfterBeforeAt ended_stop
-      (expressions terminal.Semicolon) (λ before. expressions terminal.Semicolon >>= after_tests before)
+      let rest : Rules Depth Ended = JoinedAt (ExpressionsAt (Of word.Semicolon)) AfterBeforeAt in
+      let read : Reader Ended = expressions (Of word.Semicolon)
+      >>= (λ before. expressions (Of word.Semicolon) >>= after_tests before) in
+      keyword_nests (Of word.For) (kind.Word word.For) refl
+      (λ _. JoinedAt (MarkAt (Of word.OpenParenthesis)) (λ _. rest)) ended_stop
+      level (λ _. mark (Of word.OpenParenthesis) >> read) ts refl here
+      (λ _. mark_then 1 level (Of word.OpenParenthesis) (kind.Word word.OpenParenthesis) refl (λ _. rest) ended_stop
+      (λ _. read)
+      (λ _. then_reader 1 level (ExpressionsAt (Of word.Semicolon)) AfterBeforeAt ended_stop
+      (expressions (Of word.Semicolon)) (λ before. expressions (Of word.Semicolon) >>= after_tests before)
       up_to_semicolon after_before_reader))
 
   -- ---- foreach
@@ -680,30 +691,34 @@ module _ (ends place_ends : Terminal → Bool) (known : AreRead ends place_ends)
 
   abbrev AfterAsAt : Expression → ℕ → Rules Depth Ended
   AfterAsAt subject line =
-      JoinedAt (λ _. Bound) (λ found. JoinedAt (MarkAt terminal.CloseParenthesis) (AfterBoundAt subject found))
+      JoinedAt (λ _. Bound) (λ found. JoinedAt (MarkAt (Of word.CloseParenthesis)) (AfterBoundAt subject found))
 
   abbrev after_as : Expression → ℕ → Reader Ended
-  after_as subject line = bound >>= (λ found. mark terminal.CloseParenthesis >>= after_bound subject found)
+  after_as subject line = bound >>= (λ found. mark (Of word.CloseParenthesis) >>= after_bound subject found)
 
   after_as_reader : (subject : Expression) (line : ℕ)
       → IsPartReader 1 (AfterAsAt subject line) ended_stop level (after_as subject line)
   after_as_reader subject line =
-      before_mark 1 level (λ _. Bound) (bound_stop 1 level) terminal.CloseParenthesis kind.CloseParenthesis refl
+      before_mark 1 level (λ _. Bound) (bound_stop 1 level) (Of word.CloseParenthesis) (kind.Word word.CloseParenthesis)
+      refl
       (λ a. refl) (AfterBoundAt subject) ended_stop bound (after_bound subject) (bound_reader 1 level)
       (λ found _. loop_body_reader (λ b. tree.Foreach subject found b))
 
-  pub foreach_answers : (ts : List Token) → is terminal.Foreach (head ts) ≡ true
+  pub foreach_answers : (ts : List Token) → is (Of word.Foreach) (head ts) ≡ true
       → Answers Deeper (StatementAt Foreach loops) ended_stop level ts (reader_at foreach loops level body ts)
   unfolding foreach
   foreach_answers ts here =
-      let rest : Rules Depth Ended = JoinedAt ExpressionAt (λ subject. JoinedAt (MarkAt terminal.As)
+      let rest : Rules Depth Ended = JoinedAt ExpressionAt (λ subject. JoinedAt (MarkAt (Of word.As))
       (AfterAsAt subject)) in
       let read : Reader Ended = reading level.expressions part.Whole
-      >>= (λ subject. mark terminal.As >>= after_as subject) in
-      keyword_nests terminal.Foreach kind.Foreach refl (λ _. JoinedAt (MarkAt terminal.OpenParenthesis) (λ _. rest))
-      ended_stop level (λ _. mark terminal.OpenParenthesis >> read) ts refl here
-      (λ _. mark_then 1 level terminal.OpenParenthesis kind.OpenParenthesis refl (λ _. rest) ended_stop (λ _. read)
-      (λ _. expression_then 1 level loops body ends place_ends known terminal.As kind.As refl refl AfterAsAt ended_stop
+      >>= (λ subject. mark (Of word.As) >>= after_as subject) in
+      keyword_nests (Of word.Foreach) (kind.Word word.Foreach) refl
+      (λ _. JoinedAt (MarkAt (Of word.OpenParenthesis)) (λ _. rest))
+      ended_stop level (λ _. mark (Of word.OpenParenthesis) >> read) ts refl here
+      (λ _. mark_then 1 level (Of word.OpenParenthesis) (kind.Word word.OpenParenthesis) refl (λ _. rest) ended_stop
+      (λ _. read)
+      (λ _. expression_then 1 level loops body ends place_ends known (Of word.As) (kind.Word word.As) refl refl
+      AfterAsAt ended_stop
       after_as after_as_reader))
 
   -- ---- any statement
@@ -711,23 +726,23 @@ module _ (ends place_ends : Terminal → Bool) (known : AreRead ends place_ends)
   chosen_answers : (s : Terminal) (ts : List Token) → head ts ≡ s
       → Answers Deeper (Chosen loops s) ended_stop level ts (reader_at by_keyword loops level body s ts)
   unfolding by_keyword
-  chosen_answers terminal.Echo ts e = (echo_reader 0 level loops body ends place_ends known).answers (omega arith) ts
-  chosen_answers terminal.OpenBrace ts e =
-      block_answers ends place_ends known level loops body reads ts (ap (is terminal.OpenBrace) e)
-  chosen_answers terminal.Semicolon ts e = (empty_reader 0 level).answers (omega arith) ts
-  chosen_answers terminal.If ts e = if_answers ts (ap (is terminal.If) e)
-  chosen_answers terminal.While ts e = while_answers ts (ap (is terminal.While) e)
-  chosen_answers terminal.Do ts e = do_while_answers ts (ap (is terminal.Do) e)
-  chosen_answers terminal.For ts e = for_answers ts (ap (is terminal.For) e)
-  chosen_answers terminal.Foreach ts e = foreach_answers ts (ap (is terminal.Foreach) e)
-  chosen_answers terminal.Break ts e = break_answers 0 level loops body (omega arith) ts
-  chosen_answers terminal.Continue ts e = continue_answers 0 level loops body (omega arith) ts
-  chosen_answers terminal.Return ts e =
+  chosen_answers (Of word.Echo) ts e = (echo_reader 0 level loops body ends place_ends known).answers (omega arith) ts
+  chosen_answers (Of word.OpenBrace) ts e =
+      block_answers ends place_ends known level loops body reads ts (ap (is (Of word.OpenBrace)) e)
+  chosen_answers (Of word.Semicolon) ts e = (empty_reader 0 level).answers (omega arith) ts
+  chosen_answers (Of word.If) ts e = if_answers ts (ap (is (Of word.If)) e)
+  chosen_answers (Of word.While) ts e = while_answers ts (ap (is (Of word.While)) e)
+  chosen_answers (Of word.Do) ts e = do_while_answers ts (ap (is (Of word.Do)) e)
+  chosen_answers (Of word.For) ts e = for_answers ts (ap (is (Of word.For)) e)
+  chosen_answers (Of word.Foreach) ts e = foreach_answers ts (ap (is (Of word.Foreach)) e)
+  chosen_answers (Of word.Break) ts e = break_answers 0 level loops body (omega arith) ts
+  chosen_answers (Of word.Continue) ts e = continue_answers 0 level loops body (omega arith) ts
+  chosen_answers (Of word.Return) ts e =
       (return_reader 0 level loops body ends place_ends known).answers (omega arith) ts
-  chosen_answers terminal.Global ts e = (global_reader 0 level).answers (omega arith) ts
-  chosen_answers terminal.Unset ts e = (unset_reader 0 level loops body ends place_ends known).answers (omega arith) ts
-  chosen_answers terminal.Exit ts e = (exit_reader 0 level loops body ends place_ends known).answers (omega arith) ts
-  chosen_answers terminal.Die ts e = (exit_reader 0 level loops body ends place_ends known).answers (omega arith) ts
+  chosen_answers (Of word.Global) ts e = (global_reader 0 level).answers (omega arith) ts
+  chosen_answers (Of word.Unset) ts e = (unset_reader 0 level loops body ends place_ends known).answers (omega arith) ts
+  chosen_answers (Of word.Exit) ts e = (exit_reader 0 level loops body ends place_ends known).answers (omega arith) ts
+  chosen_answers (Of word.Die) ts e = (exit_reader 0 level loops body ends place_ends known).answers (omega arith) ts
   chosen_answers _ ts e = (perform_reader 0 level loops body ends place_ends known).answers (omega arith) ts
 
   any_answers : (ts : List Token)

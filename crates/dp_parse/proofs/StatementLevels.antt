@@ -3,8 +3,9 @@ use Rattle.std.proofs.Common.{◌≡◌, inl, inr, ℕ, zero, suc, ◌≤◌, Bo
 use Rattle.dp_lexer.specs.declared.token.Token.{Token}
 use Rattle.dp_lexer.specs.declared.token.TokenKind.TheVariants as kind
 use Rattle.dp_parse.specs.declared.ended.Body.{Body}
+use Rattle.dp_token_rules.specs.declared.terminal.Terminal.TheVariants.{Of}
+use Rattle.dp_lexer.specs.declared.token.Word.TheVariants as word
 use Rattle.dp_token_rules.specs.declared.terminal.Terminal.{Terminal}
-use Rattle.dp_token_rules.specs.declared.terminal.Terminal.TheVariants as terminal
 use Rattle.dp_tree.specs.declared.tree.StatementKind.TheVariants as tree
 use Rattle.dp_token_rules.specs.Rules.{Mark}
 use Rattle.dp_parse.specs.Statements.{Depth, whole, stated, body_at}
@@ -54,17 +55,18 @@ raise_one k m e =
     λ i. depth_of (x i) (y i)
 
 -- the least statement, `;`
-least_line : (loops : ℕ) (m : Depth) → LineAt loops m (placed kind.Semicolon ∷ []) (stated 1 (whole tree.Empty))
+least_line : (loops : ℕ) (m : Depth) → LineAt loops m (placed (kind.Word word.Semicolon) ∷ [])
+    (stated 1 (whole tree.Empty))
 least_line loops m =
-    let text : List Token = placed kind.Semicolon ∷ [] in
+    let text : List Token = placed (kind.Word word.Semicolon) ∷ [] in
     record {
-      first = placed kind.Semicolon;
+      first = placed (kind.Word word.Semicolon);
       behind = [];
       begins = refl;
       spelled =
           give (AnyAt loops m) (stated 1) text (whole tree.Empty)
-          (inr (inr (inr (inl (give (Mark terminal.Semicolon) (λ _. whole tree.Empty) text 1 (mark_alone
-          terminal.Semicolon kind.Semicolon refl))))));
+          (inr (inr (inr (inl (give (Mark (Of word.Semicolon)) (λ _. whole tree.Empty) text 1 (mark_alone
+          (Of word.Semicolon) (kind.Word word.Semicolon) refl))))));
     }
 
 pub least_body : (loops : ℕ) (m : Depth) → 1 ≤ m.bodies → (ts : List Token) × (b : Body) × BodyAt loops m ts b
@@ -72,8 +74,12 @@ least_body loops m some = go m.bodies some
   where
     go : (n : ℕ) → 1 ≤ n → (ts : List Token) × (b : Body) × body_at m.expressions n loops ts b
     go zero none = absurd (omega arith)
-    go (suc n) some =
-        (placed kind.Semicolon ∷ [], stated 1 (whole tree.Empty), least_line loops (depth_of m.expressions n))
+    go (suc n) some = (
+      placed (kind.Word word.Semicolon) ∷ [],
+      stated 1 (whole tree.Empty),
+      least_line loops
+          (depth_of m.expressions n),
+    )
 
 module _ (ends place_ends : Terminal → Bool) (known : AreRead ends place_ends) where
   pub body_reader : (expressions n loops : ℕ)

@@ -6,6 +6,8 @@ use Rattle.dp_lexer.specs.declared.token.TokenKind.TheVariants as kind
 use Rattle.dp_parse.specs.declared.ended.Body.{Body}
 use Rattle.dp_parse.specs.declared.ended.Ended.{Ended}
 use Rattle.dp_expressions.specs.declared.operand.Part.TheVariants as part
+use Rattle.dp_token_rules.specs.declared.terminal.Terminal.TheVariants.{Of}
+use Rattle.dp_lexer.specs.declared.token.Word.TheVariants as word
 use Rattle.dp_token_rules.specs.declared.terminal.Terminal.{Terminal}
 use Rattle.dp_token_rules.specs.declared.terminal.Terminal.TheVariants as terminal
 use Rattle.dp_tree.specs.declared.tree.Binding.{Binding}
@@ -33,10 +35,10 @@ use Rattle.dp_token_rules.specs.TokenValues.{Text, Variable, variable_in, by_kin
 
 module _ (base : ℕ) (level : Depth) {A : Type 0} (rule : Rules Depth A) (item_stop : Stop A) (test : Terminal → Bool)
     (read : Reader A) (reader : IsPartReader base rule item_stop level read)
-    (starts : StartsIn rule test) (not_comma : test terminal.Comma ≡ false)
-    (stops_comma : (a : A) → item_stop a terminal.Comma ≡ true)
+    (starts : StartsIn rule test) (not_comma : test (Of word.Comma) ≡ false)
+    (stops_comma : (a : A) → item_stop a (Of word.Comma) ≡ true)
     (close : Terminal) (k : TokenKind) (closes : same_terminal (terminal_of k) close ≡ true)
-    (not_close : test close ≡ false) (close_apart : same_terminal close terminal.Comma ≡ false)
+    (not_close : test close ≡ false) (close_apart : same_terminal close (Of word.Comma) ≡ false)
     (stops_close : (a : A) → item_stop a close ≡ true) where
   items : base ≤ level.bodies → AreItems Deeper (λ _. rule) close item_stop test level (λ _. read)
   items some = record {
@@ -78,7 +80,7 @@ module _ (base : ℕ) (level : Depth) {A : Type 0} (rule : Rules Depth A) (item_
     answers =
         λ some. some_items_answers Deeper same_depth (λ _. rule) close item_stop test level (λ _. read) (items some);
     least =
-        least_items (Joined (Perhaps (Mark terminal.Comma)) (λ _. Mark close))
+        least_items (Joined (Perhaps (Mark (Of word.Comma))) (λ _. Mark close))
         (record {
           front = [];
           back = placed k
@@ -106,7 +108,7 @@ module _ (base : ℕ) (level : Depth) {A : Type 0} (rule : Rules Depth A) (item_
 -- the tokens that may stand behind an expression in a statement
 abbrev pub closing : Terminal → Bool
 closing s =
-    is terminal.Semicolon s || is terminal.CloseParenthesis s || is terminal.Comma s || is terminal.As s
+    is (Of word.Semicolon) s || is (Of word.CloseParenthesis) s || is (Of word.Comma) s || is (Of word.As) s
     || is terminal.End s
 
 pub record AreRead (ends place_ends : Terminal → Bool) : Type 0 where
@@ -142,7 +144,7 @@ reader_at read loops level body =
 -- ---- what a statement may be followed by
 
 abbrev pub takes_else : Terminal → Bool
-takes_else s = is terminal.Else s || is terminal.ElseIf s
+takes_else s = is (Of word.Else) s || is (Of word.ElseIf) s
 
 -- what is open does not end before an `else`
 abbrev pub open_ends : Bool → Terminal → Bool
@@ -171,38 +173,39 @@ module _ (base : ℕ) (level : Depth) where
   pub empty_reader : IsPartReader base (λ _. Empty) ended_stop level empty
   unfolding empty
   empty_reader =
-      made_reader base level (MarkAt terminal.Semicolon) (λ _. whole tree.Empty) Anything ended_stop
-      (mark terminal.Semicolon) (λ a s e. refl) (mark_reader base level terminal.Semicolon kind.Semicolon refl)
+      made_reader base level (MarkAt (Of word.Semicolon)) (λ _. whole tree.Empty) Anything ended_stop
+      (mark (Of word.Semicolon)) (λ a s e. refl) (mark_reader base level (Of word.Semicolon) (kind.Word word.Semicolon)
+      refl)
 
   -- ---- the variables of a `foreach`
 
   abbrev pub bound_stop : Binding → Terminal → Bool
-  bound_stop b s = not (is terminal.Arrow s)
+  bound_stop b s = not (is (Of word.Arrow) s)
 
   abbrev BoundRestAt : Text → Rules Depth Binding
   BoundRestAt first =
-      EitherAt (MadeAt (JoinedAt (MarkAt terminal.Arrow) (λ _ _. Variable)) (λ value. binding (Some first) value))
+      EitherAt (MadeAt (JoinedAt (MarkAt (Of word.Arrow)) (λ _ _. Variable)) (λ value. binding (Some first) value))
       (GivesAt (binding None first))
 
   arrow_starts : (first : Text)
-      → StartsIn {L = Depth} (MadeAt (JoinedAt (MarkAt terminal.Arrow) (λ _ _. Variable))
-      (λ value. binding (Some first) value)) (is terminal.Arrow)
+      → StartsIn {L = Depth} (MadeAt (JoinedAt (MarkAt (Of word.Arrow)) (λ _ _. Variable))
+      (λ value. binding (Some first) value)) (is (Of word.Arrow))
   arrow_starts first =
-      made_starts (JoinedAt (MarkAt terminal.Arrow) (λ _ _. Variable)) (λ value. binding (Some first) value)
-      (is terminal.Arrow) (joined_starts (MarkAt terminal.Arrow) (λ _ _. Variable) (is terminal.Arrow)
-      (mark_starts terminal.Arrow))
+      made_starts (JoinedAt (MarkAt (Of word.Arrow)) (λ _ _. Variable)) (λ value. binding (Some first) value)
+      (is (Of word.Arrow)) (joined_starts (MarkAt (Of word.Arrow)) (λ _ _. Variable) (is (Of word.Arrow))
+      (mark_starts (Of word.Arrow)))
 
   bound_rest_reader : (first : Text) → IsPartReader base (BoundRestAt first) bound_stop level (bound_rest first)
   unfolding bound_rest
   bound_rest_reader first =
-      either_reader base level (MadeAt (JoinedAt (MarkAt terminal.Arrow) (λ _ _. Variable))
-      (λ value. binding (Some first) value)) (GivesAt (binding None first)) (is terminal.Arrow) bound_stop
-      (made (mark terminal.Arrow >> variable) (λ value. binding (Some first) value)) (gives (binding None first))
+      either_reader base level (MadeAt (JoinedAt (MarkAt (Of word.Arrow)) (λ _ _. Variable))
+      (λ value. binding (Some first) value)) (GivesAt (binding None first)) (is (Of word.Arrow)) bound_stop
+      (made (mark (Of word.Arrow) >> variable) (λ value. binding (Some first) value)) (gives (binding None first))
       (arrow_starts first)
-      (gives_apart (binding None first) bound_stop (is terminal.Arrow) (λ s e. not_true (is terminal.Arrow s) e))
-      (made_reader base level (JoinedAt (MarkAt terminal.Arrow) (λ _ _. Variable))
-      (λ value. binding (Some first) value) Anything bound_stop (mark terminal.Arrow >> variable) (λ a s e. refl)
-      (mark_then base level terminal.Arrow kind.Arrow refl (λ _ _. Variable) Anything (λ _. variable)
+      (gives_apart (binding None first) bound_stop (is (Of word.Arrow)) (λ s e. not_true (is (Of word.Arrow) s) e))
+      (made_reader base level (JoinedAt (MarkAt (Of word.Arrow)) (λ _ _. Variable))
+      (λ value. binding (Some first) value) Anything bound_stop (mark (Of word.Arrow) >> variable) (λ a s e. refl)
+      (mark_then base level (Of word.Arrow) (kind.Word word.Arrow) refl (λ _ _. Variable) Anything (λ _. variable)
       (λ _. variable_reader)))
       (gives_reader base level (binding None first) bound_stop)
 
@@ -217,28 +220,32 @@ module _ (base : ℕ) (level : Depth) where
   pub global_reader : IsPartReader base (λ _. GlobalRule) ended_stop level global_rule
   unfolding global_rule
   global_reader =
-      made_reader base level (JoinedAt (MarkAt terminal.Global)
-      (λ _. PlainItemsAt (λ _ _. Variable) terminal.Semicolon)) (λ names. whole (tree.Global names)) Anything ended_stop
-      (mark terminal.Global >> plain_items (λ _. variable) terminal.Semicolon) (λ a s e. refl)
-      (mark_then base level terminal.Global kind.Global refl (λ _. PlainItemsAt (λ _ _. Variable) terminal.Semicolon)
-      Anything (λ _. plain_items (λ _. variable) terminal.Semicolon)
+      made_reader base level (JoinedAt (MarkAt (Of word.Global))
+      (λ _. PlainItemsAt (λ _ _. Variable) (Of word.Semicolon))) (λ names. whole (tree.Global names)) Anything
+      ended_stop
+      (mark (Of word.Global) >> plain_items (λ _. variable) (Of word.Semicolon)) (λ a s e. refl)
+      (mark_then base level (Of word.Global) (kind.Word word.Global) refl
+      (λ _. PlainItemsAt (λ _ _. Variable) (Of word.Semicolon))
+      Anything (λ _. plain_items (λ _. variable) (Of word.Semicolon))
       (λ _. plain_reader base level (λ _. Variable) Anything (is terminal.Variable) variable variable_reader
-      variable_starts refl (λ a. refl) terminal.Semicolon kind.Semicolon refl refl refl (λ a. refl)))
+      variable_starts refl (λ a. refl) (Of word.Semicolon) (kind.Word word.Semicolon) refl refl refl (λ a. refl)))
 
-  exit_word_reader : IsPartReader base (EitherAt (MarkAt terminal.Exit) (MarkAt terminal.Die)) Anything level exit_word
+  exit_word_reader : IsPartReader base (EitherAt (MarkAt (Of word.Exit)) (MarkAt (Of word.Die))) Anything level
+      exit_word
   unfolding exit_word
   exit_word_reader =
-      either_reader base level (MarkAt terminal.Exit) (MarkAt terminal.Die) (is terminal.Exit) Anything
-      (mark terminal.Exit) (mark terminal.Die) (mark_starts terminal.Exit)
-      (starts_apart (MarkAt terminal.Die) Anything (is terminal.Exit) (is terminal.Die)
-      (mark_fails (is terminal.Exit) terminal.Die refl) (mark_starts terminal.Die))
-      (mark_reader base level terminal.Exit kind.Exit refl) (mark_reader base level terminal.Die kind.Die refl)
+      either_reader base level (MarkAt (Of word.Exit)) (MarkAt (Of word.Die)) (is (Of word.Exit)) Anything
+      (mark (Of word.Exit)) (mark (Of word.Die)) (mark_starts (Of word.Exit))
+      (starts_apart (MarkAt (Of word.Die)) Anything (is (Of word.Exit)) (is (Of word.Die))
+      (mark_fails (is (Of word.Exit)) (Of word.Die) refl) (mark_starts (Of word.Die)))
+      (mark_reader base level (Of word.Exit) (kind.Word word.Exit) refl)
+      (mark_reader base level (Of word.Die) (kind.Word word.Die) refl)
 
   module _ (loops : ℕ) (body : ℕ → Reader Body) where
     -- ---- how many loops
 
     abbrev levels_stop : ℕ → Terminal → Bool
-    levels_stop n s = is terminal.Semicolon s
+    levels_stop n s = is (Of word.Semicolon) s
 
     abbrev LevelsAt : Rules Depth ℕ
     LevelsAt = EitherAt (OneAt (by_kind (number_up_to loops))) (GivesAt 1)
@@ -256,7 +263,7 @@ module _ (base : ℕ) (level : Depth) where
       answers =
           λ some ts. either_answers Deeper same_depth (OneAt (by_kind (number_up_to loops))) (GivesAt 1)
           (is terminal.Number) levels_stop level ts levels_starts
-          (gives_apart 1 levels_stop (is terminal.Number) (mark_fails (is terminal.Number) terminal.Semicolon refl))
+          (gives_apart 1 levels_stop (is terminal.Number) (mark_fails (is terminal.Number) (Of word.Semicolon) refl))
           (kind (number_up_to loops) ts) (Ok (1, ts)) (λ _. one_answers Deeper same_depth
           (by_kind (number_up_to loops)) levels_stop level ts)
           (λ _. gives_answers Deeper same_depth 1 levels_stop level ts);
@@ -266,7 +273,7 @@ module _ (base : ℕ) (level : Depth) where
     loops_reader : IsPartReader base (StatementAt Loops loops) Anything level (reader_at loops_rule loops level body)
     unfolding loops_rule
     loops_reader =
-        before_mark base level LevelsAt levels_stop terminal.Semicolon kind.Semicolon refl (λ a. refl)
+        before_mark base level LevelsAt levels_stop (Of word.Semicolon) (kind.Word word.Semicolon) refl (λ a. refl)
         (λ n _. GivesAt n) Anything (reader_at levels loops level body) (λ n _. gives n) levels_reader
         (λ n _. gives_reader base level n Anything)
 
@@ -286,10 +293,10 @@ module _ (base : ℕ) (level : Depth) where
     unfolding break_rule refuse
     break_answers some ts =
         when_answers Deeper same_depth (nat_lt 0 loops) (MadeAt
-        (JoinedAt (MarkAt terminal.Break) (λ _. StatementAt Loops loops)) (λ n. whole (tree.Break n))) ended_stop level
+        (JoinedAt (MarkAt (Of word.Break)) (λ _. StatementAt Loops loops)) (λ n. whole (tree.Break n))) ended_stop level
         ts
-        (made (mark terminal.Break >> reader_at loops_rule loops level body) (λ n. whole (tree.Break n)) ts)
-        (λ _. (in_loop_reader terminal.Break kind.Break refl (λ n. whole (tree.Break n))).answers some ts)
+        (made (mark (Of word.Break) >> reader_at loops_rule loops level body) (λ n. whole (tree.Break n)) ts)
+        (λ _. (in_loop_reader (Of word.Break) (kind.Word word.Break) refl (λ n. whole (tree.Break n))).answers some ts)
 
     pub continue_answers : base ≤ level.bodies → (ts : List Token)
         → Answers Deeper (StatementAt grammar_of.Continue loops) ended_stop level ts
@@ -297,10 +304,11 @@ module _ (base : ℕ) (level : Depth) where
     unfolding continue_rule refuse
     continue_answers some ts =
         when_answers Deeper same_depth (nat_lt 0 loops) (MadeAt
-        (JoinedAt (MarkAt terminal.Continue) (λ _. StatementAt Loops loops)) (λ n. whole (tree.Continue n))) ended_stop
+        (JoinedAt (MarkAt (Of word.Continue)) (λ _. StatementAt Loops loops)) (λ n. whole (tree.Continue n))) ended_stop
         level ts
-        (made (mark terminal.Continue >> reader_at loops_rule loops level body) (λ n. whole (tree.Continue n)) ts)
-        (λ _. (in_loop_reader terminal.Continue kind.Continue refl (λ n. whole (tree.Continue n))).answers some ts)
+        (made (mark (Of word.Continue) >> reader_at loops_rule loops level body) (λ n. whole (tree.Continue n)) ts)
+        (λ _. (in_loop_reader (Of word.Continue) (kind.Word word.Continue) refl (λ n. whole (tree.Continue n))).answers
+        some ts)
 
     -- ---- statements of expressions and places
 
@@ -365,48 +373,49 @@ module _ (base : ℕ) (level : Depth) where
           (reader_at perform loops level body)
       unfolding perform
       perform_reader =
-          expression_then terminal.Semicolon kind.Semicolon refl refl
+          expression_then (Of word.Semicolon) (kind.Word word.Semicolon) refl refl
           (λ value _. GivesAt (whole (tree.Expression value))) ended_stop
           (λ value _. gives (whole (tree.Expression value))) (λ value _. gives_reader base level
           (whole (tree.Expression value)) ended_stop)
 
-      plain_expressions : IsPartReader base (PlainItemsAt (λ _. ExpressionAt) terminal.Semicolon) Anything level
-          (plain_items (λ _. expression) terminal.Semicolon)
+      plain_expressions : IsPartReader base (PlainItemsAt (λ _. ExpressionAt) (Of word.Semicolon)) Anything level
+          (plain_items (λ _. expression) (Of word.Semicolon))
       plain_expressions =
           plain_reader base level ExpressionAt expression_stop begins_expression expression expression_reader
-          expression_starts refl (λ a. known.stops terminal.Comma refl) terminal.Semicolon kind.Semicolon refl refl refl
-          (λ a. known.stops terminal.Semicolon refl)
+          expression_starts refl (λ a. known.stops (Of word.Comma) refl) (Of word.Semicolon) (kind.Word word.Semicolon)
+          refl refl refl
+          (λ a. known.stops (Of word.Semicolon) refl)
 
       -- the expressions of a `for`, up to the token that ends them
       pub any_expressions : (close : Terminal) (k : TokenKind) → same_terminal (terminal_of k) close ≡ true
-          → begins_expression close ≡ false → same_terminal close terminal.Comma ≡ false → closing close ≡ true
+          → begins_expression close ≡ false → same_terminal close (Of word.Comma) ≡ false → closing close ≡ true
           → IsPartReader base (AnyPlainItemsAt (λ _. ExpressionAt) close) Anything level
           (any_plain_items (λ _. expression) close)
       any_expressions close k is_sort not_first not_comma closes =
           any_plain_reader base level ExpressionAt expression_stop begins_expression expression expression_reader
-          expression_starts refl (λ a. known.stops terminal.Comma refl) close k is_sort not_first not_comma
+          expression_starts refl (λ a. known.stops (Of word.Comma) refl) close k is_sort not_first not_comma
           (λ a. known.stops close closes)
 
       pub echo_reader : IsPartReader base (StatementAt Echo loops) ended_stop level (reader_at echo loops level body)
       unfolding echo
       echo_reader =
-          mark_then base level terminal.Echo kind.Echo refl (λ _. JoinedAt
-          (PlainItemsAt (λ _. ExpressionAt) terminal.Semicolon) (λ values. GivesAt (whole (tree.Echo values))))
+          mark_then base level (Of word.Echo) (kind.Word word.Echo) refl (λ _. JoinedAt
+          (PlainItemsAt (λ _. ExpressionAt) (Of word.Semicolon)) (λ values. GivesAt (whole (tree.Echo values))))
           ended_stop
-          (λ _. plain_items (λ _. expression) terminal.Semicolon >>= (λ values. gives (whole (tree.Echo values))))
-          (λ _. then_reader base level (PlainItemsAt (λ _. ExpressionAt) terminal.Semicolon)
+          (λ _. plain_items (λ _. expression) (Of word.Semicolon) >>= (λ values. gives (whole (tree.Echo values))))
+          (λ _. then_reader base level (PlainItemsAt (λ _. ExpressionAt) (Of word.Semicolon))
           (λ values. GivesAt (whole (tree.Echo values))) ended_stop
-          (plain_items (λ _. expression) terminal.Semicolon) (λ values. gives (whole (tree.Echo values)))
+          (plain_items (λ _. expression) (Of word.Semicolon)) (λ values. gives (whole (tree.Echo values)))
           plain_expressions (λ values. gives_reader base level (whole (tree.Echo values)) ended_stop))
 
       pub test_reader : IsPartReader base (StatementAt Test loops) Anything level (reader_at head_test loops level body)
       unfolding head_test
       test_reader =
-          mark_then base level terminal.OpenParenthesis kind.OpenParenthesis refl
-          (λ _. JoinedAt ExpressionAt (λ found. JoinedAt (MarkAt terminal.CloseParenthesis) (λ _. GivesAt found)))
+          mark_then base level (Of word.OpenParenthesis) (kind.Word word.OpenParenthesis) refl
+          (λ _. JoinedAt ExpressionAt (λ found. JoinedAt (MarkAt (Of word.CloseParenthesis)) (λ _. GivesAt found)))
           Anything
-          (λ _. expression >>= (λ found. mark terminal.CloseParenthesis >> gives found))
-          (λ _. expression_then terminal.CloseParenthesis kind.CloseParenthesis refl refl
+          (λ _. expression >>= (λ found. mark (Of word.CloseParenthesis) >> gives found))
+          (λ _. expression_then (Of word.CloseParenthesis) (kind.Word word.CloseParenthesis) refl refl
           (λ found _. GivesAt found) Anything (λ found _. gives found)
           (λ found _. gives_reader base level found Anything))
 
@@ -439,79 +448,83 @@ module _ (base : ℕ) (level : Depth) where
           (reader_at return_rule loops level body)
       unfolding return_rule
       return_reader =
-          made_reader base level (JoinedAt (MarkAt terminal.Return)
-          (λ _. EitherAt (NoneAt terminal.Semicolon) (SomeAt terminal.Semicolon)))
+          made_reader base level (JoinedAt (MarkAt (Of word.Return))
+          (λ _. EitherAt (NoneAt (Of word.Semicolon)) (SomeAt (Of word.Semicolon))))
           (λ value. whole (tree.Return value)) Anything ended_stop
-          (mark terminal.Return >> reader_at maybe_up_to loops level body terminal.Semicolon) (λ a s e. refl)
-          (mark_then base level terminal.Return kind.Return refl
-          (λ _. EitherAt (NoneAt terminal.Semicolon) (SomeAt terminal.Semicolon)) Anything
-          (λ _. reader_at maybe_up_to loops level body terminal.Semicolon)
-          (λ _. maybe_reader terminal.Semicolon kind.Semicolon refl refl refl))
+          (mark (Of word.Return) >> reader_at maybe_up_to loops level body (Of word.Semicolon)) (λ a s e. refl)
+          (mark_then base level (Of word.Return) (kind.Word word.Return) refl
+          (λ _. EitherAt (NoneAt (Of word.Semicolon)) (SomeAt (Of word.Semicolon))) Anything
+          (λ _. reader_at maybe_up_to loops level body (Of word.Semicolon))
+          (λ _. maybe_reader (Of word.Semicolon) (kind.Word word.Semicolon) refl refl refl))
 
       -- ---- unset and exit
 
-      some_places : IsPartReader base (SomeItemsAt (λ _. PlaceAt) terminal.CloseParenthesis) Anything level
-          (some_items (λ _. place) terminal.CloseParenthesis)
+      some_places : IsPartReader base (SomeItemsAt (λ _. PlaceAt) (Of word.CloseParenthesis)) Anything level
+          (some_items (λ _. place) (Of word.CloseParenthesis))
       some_places =
           some_reader base level PlaceAt place_stop (is terminal.Variable) place place_reader place_starts refl
-          (λ a. known.stops_place terminal.Comma refl) terminal.CloseParenthesis kind.CloseParenthesis refl refl refl
-          (λ a. known.stops_place terminal.CloseParenthesis refl)
+          (λ a. known.stops_place (Of word.Comma) refl) (Of word.CloseParenthesis) (kind.Word word.CloseParenthesis)
+          refl refl refl
+          (λ a. known.stops_place (Of word.CloseParenthesis) refl)
 
       pub unset_reader : IsPartReader base (StatementAt Unset loops) ended_stop level (reader_at unset loops level body)
       unfolding unset
       unset_reader =
           let last : List Place → ℕ → Rules Depth Ended = λ places _. GivesAt (whole (tree.Unset places)) in
-          let rest : Rules Depth Ended = JoinedAt (SomeItemsAt (λ _. PlaceAt) terminal.CloseParenthesis)
-          (λ places. JoinedAt (MarkAt terminal.Semicolon) (last places)) in
-          let read : Reader Ended = some_items (λ _. place) terminal.CloseParenthesis
-          >>= (λ places. mark terminal.Semicolon >> gives (whole (tree.Unset places))) in
-          mark_then base level terminal.Unset kind.Unset refl
-          (λ _. JoinedAt (MarkAt terminal.OpenParenthesis) (λ _. rest)) ended_stop
-          (λ _. mark terminal.OpenParenthesis >> read)
-          (λ _. mark_then base level terminal.OpenParenthesis kind.OpenParenthesis refl (λ _. rest) ended_stop
+          let rest : Rules Depth Ended = JoinedAt (SomeItemsAt (λ _. PlaceAt) (Of word.CloseParenthesis))
+          (λ places. JoinedAt (MarkAt (Of word.Semicolon)) (last places)) in
+          let read : Reader Ended = some_items (λ _. place) (Of word.CloseParenthesis)
+          >>= (λ places. mark (Of word.Semicolon) >> gives (whole (tree.Unset places))) in
+          mark_then base level (Of word.Unset) (kind.Word word.Unset) refl
+          (λ _. JoinedAt (MarkAt (Of word.OpenParenthesis)) (λ _. rest)) ended_stop
+          (λ _. mark (Of word.OpenParenthesis) >> read)
+          (λ _. mark_then base level (Of word.OpenParenthesis) (kind.Word word.OpenParenthesis) refl (λ _. rest)
+          ended_stop
           (λ _. read)
-          (λ _. before_mark base level (SomeItemsAt (λ _. PlaceAt) terminal.CloseParenthesis) Anything
-          terminal.Semicolon kind.Semicolon refl (λ a. refl) last ended_stop
-          (some_items (λ _. place) terminal.CloseParenthesis) (λ places _. gives (whole (tree.Unset places)))
+          (λ _. before_mark base level (SomeItemsAt (λ _. PlaceAt) (Of word.CloseParenthesis)) Anything
+          (Of word.Semicolon) (kind.Word word.Semicolon) refl (λ a. refl) last ended_stop
+          (some_items (λ _. place) (Of word.CloseParenthesis)) (λ places _. gives (whole (tree.Unset places)))
           some_places (λ places _. gives_reader base level (whole (tree.Unset places)) ended_stop)))
 
       abbrev value_stop : Option Expression → Terminal → Bool
-      value_stop a s = is terminal.Semicolon s
+      value_stop a s = is (Of word.Semicolon) s
 
       abbrev ValueAt : Rules Depth (Option Expression)
       ValueAt =
-          JoinedAt (MarkAt terminal.OpenParenthesis) (λ _. EitherAt (NoneAt terminal.CloseParenthesis)
-          (SomeAt terminal.CloseParenthesis))
+          JoinedAt (MarkAt (Of word.OpenParenthesis)) (λ _. EitherAt (NoneAt (Of word.CloseParenthesis))
+          (SomeAt (Of word.CloseParenthesis)))
 
       exit_value_reader : IsPartReader base (EitherAt ValueAt (GivesAt None)) value_stop level
           (reader_at exit_value loops level body)
       unfolding exit_value
       exit_value_reader =
-          either_reader base level ValueAt (GivesAt None) (is terminal.OpenParenthesis) value_stop
-          (mark terminal.OpenParenthesis >> reader_at maybe_up_to loops level body terminal.CloseParenthesis)
+          either_reader base level ValueAt (GivesAt None) (is (Of word.OpenParenthesis)) value_stop
+          (mark (Of word.OpenParenthesis) >> reader_at maybe_up_to loops level body (Of word.CloseParenthesis))
           (gives None)
-          (joined_starts (MarkAt terminal.OpenParenthesis) (λ _. EitherAt (NoneAt terminal.CloseParenthesis)
-          (SomeAt terminal.CloseParenthesis)) (is terminal.OpenParenthesis) (mark_starts terminal.OpenParenthesis))
-          (gives_apart None value_stop (is terminal.OpenParenthesis)
-          (mark_fails (is terminal.OpenParenthesis) terminal.Semicolon refl))
-          (stricter base level ValueAt Anything value_stop (mark terminal.OpenParenthesis >> reader_at maybe_up_to loops
-          level body terminal.CloseParenthesis) (λ a s e. refl)
-          (mark_then base level terminal.OpenParenthesis kind.OpenParenthesis refl
-          (λ _. EitherAt (NoneAt terminal.CloseParenthesis) (SomeAt terminal.CloseParenthesis)) Anything
-          (λ _. reader_at maybe_up_to loops level body terminal.CloseParenthesis)
-          (λ _. maybe_reader terminal.CloseParenthesis kind.CloseParenthesis refl refl refl)))
+          (joined_starts (MarkAt (Of word.OpenParenthesis)) (λ _. EitherAt (NoneAt (Of word.CloseParenthesis))
+          (SomeAt (Of word.CloseParenthesis))) (is (Of word.OpenParenthesis)) (mark_starts (Of word.OpenParenthesis)))
+          (gives_apart None value_stop (is (Of word.OpenParenthesis))
+          (mark_fails (is (Of word.OpenParenthesis)) (Of word.Semicolon) refl))
+          (stricter base level ValueAt Anything value_stop
+          (mark (Of word.OpenParenthesis) >> reader_at maybe_up_to loops
+          level body (Of word.CloseParenthesis)) (λ a s e. refl)
+          (mark_then base level (Of word.OpenParenthesis) (kind.Word word.OpenParenthesis) refl
+          (λ _. EitherAt (NoneAt (Of word.CloseParenthesis)) (SomeAt (Of word.CloseParenthesis))) Anything
+          (λ _. reader_at maybe_up_to loops level body (Of word.CloseParenthesis))
+          (λ _. maybe_reader (Of word.CloseParenthesis) (kind.Word word.CloseParenthesis) refl refl refl)))
           (gives_reader base level None value_stop)
 
       pub exit_reader : IsPartReader base (StatementAt Exit loops) ended_stop level (reader_at exit loops level body)
       unfolding exit
       exit_reader =
           let last : Option Expression → ℕ → Rules Depth Ended = λ value _. GivesAt (whole (tree.Exit value)) in
-          then_reader base level (EitherAt (MarkAt terminal.Exit) (MarkAt terminal.Die))
+          then_reader base level (EitherAt (MarkAt (Of word.Exit)) (MarkAt (Of word.Die)))
           (λ _. JoinedAt (EitherAt ValueAt (GivesAt None))
-          (λ value. JoinedAt (MarkAt terminal.Semicolon) (last value))) ended_stop exit_word
+          (λ value. JoinedAt (MarkAt (Of word.Semicolon)) (last value))) ended_stop exit_word
           (λ _. reader_at exit_value loops level body
-          >>= (λ value. mark terminal.Semicolon >> gives (whole (tree.Exit value)))) exit_word_reader
-          (λ _. before_mark base level (EitherAt ValueAt (GivesAt None)) value_stop terminal.Semicolon kind.Semicolon
+          >>= (λ value. mark (Of word.Semicolon) >> gives (whole (tree.Exit value)))) exit_word_reader
+          (λ _. before_mark base level (EitherAt ValueAt (GivesAt None)) value_stop (Of word.Semicolon)
+          (kind.Word word.Semicolon)
           refl (λ a. refl) last ended_stop (reader_at exit_value loops level body)
           (λ value _. gives (whole (tree.Exit value)))
           exit_value_reader (λ value _. gives_reader base level (whole (tree.Exit value)) ended_stop))

@@ -3,8 +3,9 @@ use Rattle.std.proofs.Common.{◌≡◌, inl, inr, ℕ, zero, suc, Bool, true, f
 use Rattle.dp_lexer.specs.declared.token.Token.{Token}
 use Rattle.dp_parse.specs.declared.ended.Body.{Body}
 use Rattle.dp_parse.specs.declared.ended.Ended.{Ended}
+use Rattle.dp_token_rules.specs.declared.terminal.Terminal.TheVariants.{Of}
+use Rattle.dp_lexer.specs.declared.token.Word.TheVariants as word
 use Rattle.dp_token_rules.specs.declared.terminal.Terminal.{Terminal}
-use Rattle.dp_token_rules.specs.declared.terminal.Terminal.TheVariants as terminal
 use Rattle.dp_tree.specs.declared.tree.StatementKind.TheVariants as tree
 use Rattle.dp_token_rules.specs.Terminals.{terminal_of, is}
 use Rattle.dp_expressions.specs.inner.Readers.{begins_expression}
@@ -17,21 +18,21 @@ use Rattle.dp_parse.proofs.StatementParts.{AreRead, ExpressionAt, StatementAt, t
 -- ---- what a statement begins with
 
 abbrev pub begins_keyword : Terminal → Bool
-begins_keyword terminal.Echo = true
-begins_keyword terminal.OpenBrace = true
-begins_keyword terminal.Semicolon = true
-begins_keyword terminal.If = true
-begins_keyword terminal.While = true
-begins_keyword terminal.Do = true
-begins_keyword terminal.For = true
-begins_keyword terminal.Foreach = true
-begins_keyword terminal.Break = true
-begins_keyword terminal.Continue = true
-begins_keyword terminal.Return = true
-begins_keyword terminal.Global = true
-begins_keyword terminal.Unset = true
-begins_keyword terminal.Exit = true
-begins_keyword terminal.Die = true
+begins_keyword (Of word.Echo) = true
+begins_keyword (Of word.OpenBrace) = true
+begins_keyword (Of word.Semicolon) = true
+begins_keyword (Of word.If) = true
+begins_keyword (Of word.While) = true
+begins_keyword (Of word.Do) = true
+begins_keyword (Of word.For) = true
+begins_keyword (Of word.Foreach) = true
+begins_keyword (Of word.Break) = true
+begins_keyword (Of word.Continue) = true
+begins_keyword (Of word.Return) = true
+begins_keyword (Of word.Global) = true
+begins_keyword (Of word.Unset) = true
+begins_keyword (Of word.Exit) = true
+begins_keyword (Of word.Die) = true
 begins_keyword _ = false
 
 abbrev pub begins_statement : Terminal → Bool
@@ -60,63 +61,63 @@ LineAt loops = OnLineAt (λ line. MadeAt (AnyAt loops) (stated line))
 
 -- the rule of the statements that begin with such a token
 abbrev pub Chosen : ℕ → Terminal → Rules Depth Ended
-Chosen loops terminal.Echo = StatementAt Echo loops
-Chosen loops terminal.OpenBrace = StatementAt Block loops
-Chosen loops terminal.Semicolon = λ _. Empty
-Chosen loops terminal.If = StatementAt If loops
-Chosen loops terminal.While = StatementAt While loops
-Chosen loops terminal.Do = StatementAt DoWhile loops
-Chosen loops terminal.For = StatementAt For loops
-Chosen loops terminal.Foreach = StatementAt Foreach loops
-Chosen loops terminal.Break = StatementAt grammar.Break loops
-Chosen loops terminal.Continue = StatementAt grammar.Continue loops
-Chosen loops terminal.Return = StatementAt Return loops
-Chosen loops terminal.Global = λ _. GlobalRule
-Chosen loops terminal.Unset = StatementAt Unset loops
-Chosen loops terminal.Exit = StatementAt Exit loops
-Chosen loops terminal.Die = StatementAt Exit loops
+Chosen loops (Of word.Echo) = StatementAt Echo loops
+Chosen loops (Of word.OpenBrace) = StatementAt Block loops
+Chosen loops (Of word.Semicolon) = λ _. Empty
+Chosen loops (Of word.If) = StatementAt If loops
+Chosen loops (Of word.While) = StatementAt While loops
+Chosen loops (Of word.Do) = StatementAt DoWhile loops
+Chosen loops (Of word.For) = StatementAt For loops
+Chosen loops (Of word.Foreach) = StatementAt Foreach loops
+Chosen loops (Of word.Break) = StatementAt grammar.Break loops
+Chosen loops (Of word.Continue) = StatementAt grammar.Continue loops
+Chosen loops (Of word.Return) = StatementAt Return loops
+Chosen loops (Of word.Global) = λ _. GlobalRule
+Chosen loops (Of word.Unset) = StatementAt Unset loops
+Chosen loops (Of word.Exit) = StatementAt Exit loops
+Chosen loops (Of word.Die) = StatementAt Exit loops
 Chosen loops _ = StatementAt Perform loops
 
 pub unchosen : (loops : ℕ) (s : Terminal) (m : Depth) (text : List Token) (a : Ended) → Chosen loops s m text a
     → AnyAt loops m text a
-unchosen loops terminal.Echo m text a h = inr (inl h)
-unchosen loops terminal.OpenBrace m text a h = inr (inr (inl h))
-unchosen loops terminal.Semicolon m text a h = inr (inr (inr (inl h)))
-unchosen loops terminal.If m text a h = inr (inr (inr (inr (inl h))))
-unchosen loops terminal.While m text a h = inr (inr (inr (inr (inr (inl h)))))
-unchosen loops terminal.Do m text a h = inr (inr (inr (inr (inr (inr (inl h))))))
-unchosen loops terminal.For m text a h = inr (inr (inr (inr (inr (inr (inr (inl h)))))))
-unchosen loops terminal.Foreach m text a h = inr (inr (inr (inr (inr (inr (inr (inr (inl h))))))))
-unchosen loops terminal.Break m text a h = inr (inr (inr (inr (inr (inr (inr (inr (inr (inl h)))))))))
-unchosen loops terminal.Continue m text a h = inr (inr (inr (inr (inr (inr (inr (inr (inr (inr (inl h))))))))))
-unchosen loops terminal.Return m text a h = inr (inr (inr (inr (inr (inr (inr (inr (inr (inr (inr (inl h)))))))))))
-unchosen loops terminal.Global m text a h =
+unchosen loops (Of word.Echo) m text a h = inr (inl h)
+unchosen loops (Of word.OpenBrace) m text a h = inr (inr (inl h))
+unchosen loops (Of word.Semicolon) m text a h = inr (inr (inr (inl h)))
+unchosen loops (Of word.If) m text a h = inr (inr (inr (inr (inl h))))
+unchosen loops (Of word.While) m text a h = inr (inr (inr (inr (inr (inl h)))))
+unchosen loops (Of word.Do) m text a h = inr (inr (inr (inr (inr (inr (inl h))))))
+unchosen loops (Of word.For) m text a h = inr (inr (inr (inr (inr (inr (inr (inl h)))))))
+unchosen loops (Of word.Foreach) m text a h = inr (inr (inr (inr (inr (inr (inr (inr (inl h))))))))
+unchosen loops (Of word.Break) m text a h = inr (inr (inr (inr (inr (inr (inr (inr (inr (inl h)))))))))
+unchosen loops (Of word.Continue) m text a h = inr (inr (inr (inr (inr (inr (inr (inr (inr (inr (inl h))))))))))
+unchosen loops (Of word.Return) m text a h = inr (inr (inr (inr (inr (inr (inr (inr (inr (inr (inr (inl h)))))))))))
+unchosen loops (Of word.Global) m text a h =
     inr (inr (inr (inr (inr (inr (inr (inr (inr (inr (inr (inr (inl h))))))))))))
-unchosen loops terminal.Unset m text a h =
+unchosen loops (Of word.Unset) m text a h =
     inr (inr (inr (inr (inr (inr (inr (inr (inr (inr (inr (inr (inr (inl h)))))))))))))
-unchosen loops terminal.Exit m text a h =
+unchosen loops (Of word.Exit) m text a h =
     inr (inr (inr (inr (inr (inr (inr (inr (inr (inr (inr (inr (inr (inr h)))))))))))))
-unchosen loops terminal.Die m text a h =
+unchosen loops (Of word.Die) m text a h =
     inr (inr (inr (inr (inr (inr (inr (inr (inr (inr (inr (inr (inr (inr h)))))))))))))
 unchosen loops _ m text a h = inl h
 
 perform_chosen : (loops : ℕ) (s : Terminal) (m : Depth) (text : List Token) (a : Ended) → begins_expression s ≡ true
     → StatementAt Perform loops m text a → Chosen loops s m text a
-perform_chosen loops terminal.Echo m text a e h = absurd (cc)
-perform_chosen loops terminal.OpenBrace m text a e h = absurd (cc)
-perform_chosen loops terminal.Semicolon m text a e h = absurd (cc)
-perform_chosen loops terminal.If m text a e h = absurd (cc)
-perform_chosen loops terminal.While m text a e h = absurd (cc)
-perform_chosen loops terminal.Do m text a e h = absurd (cc)
-perform_chosen loops terminal.For m text a e h = absurd (cc)
-perform_chosen loops terminal.Foreach m text a e h = absurd (cc)
-perform_chosen loops terminal.Break m text a e h = absurd (cc)
-perform_chosen loops terminal.Continue m text a e h = absurd (cc)
-perform_chosen loops terminal.Return m text a e h = absurd (cc)
-perform_chosen loops terminal.Global m text a e h = absurd (cc)
-perform_chosen loops terminal.Unset m text a e h = absurd (cc)
-perform_chosen loops terminal.Exit m text a e h = absurd (cc)
-perform_chosen loops terminal.Die m text a e h = absurd (cc)
+perform_chosen loops (Of word.Echo) m text a e h = absurd (cc)
+perform_chosen loops (Of word.OpenBrace) m text a e h = absurd (cc)
+perform_chosen loops (Of word.Semicolon) m text a e h = absurd (cc)
+perform_chosen loops (Of word.If) m text a e h = absurd (cc)
+perform_chosen loops (Of word.While) m text a e h = absurd (cc)
+perform_chosen loops (Of word.Do) m text a e h = absurd (cc)
+perform_chosen loops (Of word.For) m text a e h = absurd (cc)
+perform_chosen loops (Of word.Foreach) m text a e h = absurd (cc)
+perform_chosen loops (Of word.Break) m text a e h = absurd (cc)
+perform_chosen loops (Of word.Continue) m text a e h = absurd (cc)
+perform_chosen loops (Of word.Return) m text a e h = absurd (cc)
+perform_chosen loops (Of word.Global) m text a e h = absurd (cc)
+perform_chosen loops (Of word.Unset) m text a e h = absurd (cc)
+perform_chosen loops (Of word.Exit) m text a e h = absurd (cc)
+perform_chosen loops (Of word.Die) m text a e h = absurd (cc)
 perform_chosen loops _ m text a e h = h
 
 -- ---- an end that is no `else`
@@ -127,8 +128,8 @@ open_ends_other false s e = refl
 
 pub statement_no_else : (s : Terminal) → begins_statement s ≡ true → takes_else s ≡ false
 statement_no_else s e =
-    ap (λ b. b || is terminal.ElseIf s) (mark_apart begins_statement terminal.Else refl s e)
-    ∙ mark_apart begins_statement terminal.ElseIf refl s e
+    ap (λ b. b || is (Of word.ElseIf) s) (mark_apart begins_statement (Of word.Else) refl s e)
+    ∙ mark_apart begins_statement (Of word.ElseIf) refl s e
 
 module _ (ends place_ends : Terminal → Bool) (known : AreRead ends place_ends) where
   -- The first token of a statement tells which it is.
@@ -166,43 +167,43 @@ module _ (ends place_ends : Terminal → Bool) (known : AreRead ends place_ends)
         chosen = perform_chosen loops (terminal_of x.0.kind) m text a x.3 h;
       }
 
-  echo_starts : (loops : ℕ) → StartsIn (StatementAt Echo loops) (is terminal.Echo)
-  echo_starts loops = joined_starts (MarkAt terminal.Echo) _ (is terminal.Echo) (mark_starts terminal.Echo)
+  echo_starts : (loops : ℕ) → StartsIn (StatementAt Echo loops) (is (Of word.Echo))
+  echo_starts loops = joined_starts (MarkAt (Of word.Echo)) _ (is (Of word.Echo)) (mark_starts (Of word.Echo))
 
-  block_starts : (loops : ℕ) → StartsIn (StatementAt Block loops) (is terminal.OpenBrace)
+  block_starts : (loops : ℕ) → StartsIn (StatementAt Block loops) (is (Of word.OpenBrace))
   block_starts loops =
-      nests_starts (λ m. m.bodies) _ (is terminal.OpenBrace) (joined_starts (MarkAt terminal.OpenBrace) _
-      (is terminal.OpenBrace) (mark_starts terminal.OpenBrace))
+      nests_starts (λ m. m.bodies) _ (is (Of word.OpenBrace)) (joined_starts (MarkAt (Of word.OpenBrace)) _
+      (is (Of word.OpenBrace)) (mark_starts (Of word.OpenBrace)))
 
-  empty_starts : StartsIn {L = Depth} (λ _. Empty) (is terminal.Semicolon)
+  empty_starts : StartsIn {L = Depth} (λ _. Empty) (is (Of word.Semicolon))
   empty_starts =
-      made_starts (MarkAt terminal.Semicolon) (λ _. whole tree.Empty) (is terminal.Semicolon)
-      (mark_starts terminal.Semicolon)
+      made_starts (MarkAt (Of word.Semicolon)) (λ _. whole tree.Empty) (is (Of word.Semicolon))
+      (mark_starts (Of word.Semicolon))
 
-  if_starts : (loops : ℕ) → StartsIn (StatementAt If loops) (is terminal.If)
+  if_starts : (loops : ℕ) → StartsIn (StatementAt If loops) (is (Of word.If))
   if_starts loops =
-      nests_starts (λ m. m.bodies) _ (is terminal.If) (joined_starts (MarkAt terminal.If) _ (is terminal.If)
-      (mark_starts terminal.If))
+      nests_starts (λ m. m.bodies) _ (is (Of word.If)) (joined_starts (MarkAt (Of word.If)) _ (is (Of word.If))
+      (mark_starts (Of word.If)))
 
-  while_starts : (loops : ℕ) → StartsIn (StatementAt While loops) (is terminal.While)
+  while_starts : (loops : ℕ) → StartsIn (StatementAt While loops) (is (Of word.While))
   while_starts loops =
-      nests_starts (λ m. m.bodies) _ (is terminal.While) (joined_starts (MarkAt terminal.While) _ (is terminal.While)
-      (mark_starts terminal.While))
+      nests_starts (λ m. m.bodies) _ (is (Of word.While)) (joined_starts (MarkAt (Of word.While)) _ (is (Of word.While))
+      (mark_starts (Of word.While)))
 
-  do_starts : (loops : ℕ) → StartsIn (StatementAt DoWhile loops) (is terminal.Do)
+  do_starts : (loops : ℕ) → StartsIn (StatementAt DoWhile loops) (is (Of word.Do))
   do_starts loops =
-      nests_starts (λ m. m.bodies) _ (is terminal.Do) (joined_starts (MarkAt terminal.Do) _ (is terminal.Do)
-      (mark_starts terminal.Do))
+      nests_starts (λ m. m.bodies) _ (is (Of word.Do)) (joined_starts (MarkAt (Of word.Do)) _ (is (Of word.Do))
+      (mark_starts (Of word.Do)))
 
-  for_starts : (loops : ℕ) → StartsIn (StatementAt For loops) (is terminal.For)
+  for_starts : (loops : ℕ) → StartsIn (StatementAt For loops) (is (Of word.For))
   for_starts loops =
-      nests_starts (λ m. m.bodies) _ (is terminal.For) (joined_starts (MarkAt terminal.For) _ (is terminal.For)
-      (mark_starts terminal.For))
+      nests_starts (λ m. m.bodies) _ (is (Of word.For)) (joined_starts (MarkAt (Of word.For)) _ (is (Of word.For))
+      (mark_starts (Of word.For)))
 
-  foreach_starts : (loops : ℕ) → StartsIn (StatementAt Foreach loops) (is terminal.Foreach)
+  foreach_starts : (loops : ℕ) → StartsIn (StatementAt Foreach loops) (is (Of word.Foreach))
   foreach_starts loops =
-      nests_starts (λ m. m.bodies) _ (is terminal.Foreach) (joined_starts (MarkAt terminal.Foreach) _
-      (is terminal.Foreach) (mark_starts terminal.Foreach))
+      nests_starts (λ m. m.bodies) _ (is (Of word.Foreach)) (joined_starts (MarkAt (Of word.Foreach)) _
+      (is (Of word.Foreach)) (mark_starts (Of word.Foreach)))
 
   in_loop_starts : (loops : ℕ) (s : Terminal) (f : ℕ → Ended)
       → StartsIn (WhenAt (nat_lt 0 loops) (MadeAt (JoinedAt (MarkAt s) (λ _. StatementAt Loops loops)) f)) (is s)
@@ -211,36 +212,36 @@ module _ (ends place_ends : Terminal → Bool) (known : AreRead ends place_ends)
       (made_starts (JoinedAt (MarkAt s) (λ _. StatementAt Loops loops)) f (is s)
       (joined_starts (MarkAt s) (λ _. StatementAt Loops loops) (is s) (mark_starts s)))
 
-  return_starts : (loops : ℕ) → StartsIn (StatementAt Return loops) (is terminal.Return)
+  return_starts : (loops : ℕ) → StartsIn (StatementAt Return loops) (is (Of word.Return))
   return_starts loops =
-      made_starts _ (λ value. whole (tree.Return value)) (is terminal.Return)
-      (joined_starts (MarkAt terminal.Return) _ (is terminal.Return) (mark_starts terminal.Return))
+      made_starts _ (λ value. whole (tree.Return value)) (is (Of word.Return))
+      (joined_starts (MarkAt (Of word.Return)) _ (is (Of word.Return)) (mark_starts (Of word.Return)))
 
-  global_starts : StartsIn {L = Depth} (λ _. GlobalRule) (is terminal.Global)
+  global_starts : StartsIn {L = Depth} (λ _. GlobalRule) (is (Of word.Global))
   global_starts =
-      made_starts _ (λ names. whole (tree.Global names)) (is terminal.Global)
-      (joined_starts (MarkAt terminal.Global) _ (is terminal.Global) (mark_starts terminal.Global))
+      made_starts _ (λ names. whole (tree.Global names)) (is (Of word.Global))
+      (joined_starts (MarkAt (Of word.Global)) _ (is (Of word.Global)) (mark_starts (Of word.Global)))
 
-  unset_starts : (loops : ℕ) → StartsIn (StatementAt Unset loops) (is terminal.Unset)
-  unset_starts loops = joined_starts (MarkAt terminal.Unset) _ (is terminal.Unset) (mark_starts terminal.Unset)
+  unset_starts : (loops : ℕ) → StartsIn (StatementAt Unset loops) (is (Of word.Unset))
+  unset_starts loops = joined_starts (MarkAt (Of word.Unset)) _ (is (Of word.Unset)) (mark_starts (Of word.Unset))
 
-  exit_starts : (loops : ℕ) → StartsIn (StatementAt Exit loops) (λ s. is terminal.Exit s || is terminal.Die s)
+  exit_starts : (loops : ℕ) → StartsIn (StatementAt Exit loops) (λ s. is (Of word.Exit) s || is (Of word.Die) s)
   exit_starts loops =
-      joined_starts (EitherAt (MarkAt terminal.Exit) (MarkAt terminal.Die)) _
-      (λ s. is terminal.Exit s
-      || is terminal.Die s) (either_starts (MarkAt terminal.Exit) (MarkAt terminal.Die)
-      (λ s. is terminal.Exit s || is terminal.Die s)
-      (starts_in_more (MarkAt terminal.Exit) (is terminal.Exit) (λ s. is terminal.Exit s || is terminal.Die s)
-      (λ s. or_left (is terminal.Exit s) (is terminal.Die s)) (mark_starts terminal.Exit))
-      (starts_in_more (MarkAt terminal.Die) (is terminal.Die) (λ s. is terminal.Exit s || is terminal.Die s)
-      (λ s. or_right (is terminal.Exit s) (is terminal.Die s)) (mark_starts terminal.Die)))
+      joined_starts (EitherAt (MarkAt (Of word.Exit)) (MarkAt (Of word.Die))) _
+      (λ s. is (Of word.Exit) s
+      || is (Of word.Die) s) (either_starts (MarkAt (Of word.Exit)) (MarkAt (Of word.Die))
+      (λ s. is (Of word.Exit) s || is (Of word.Die) s)
+      (starts_in_more (MarkAt (Of word.Exit)) (is (Of word.Exit)) (λ s. is (Of word.Exit) s || is (Of word.Die) s)
+      (λ s. or_left (is (Of word.Exit) s) (is (Of word.Die) s)) (mark_starts (Of word.Exit)))
+      (starts_in_more (MarkAt (Of word.Die)) (is (Of word.Die)) (λ s. is (Of word.Exit) s || is (Of word.Die) s)
+      (λ s. or_right (is (Of word.Exit) s) (is (Of word.Die) s)) (mark_starts (Of word.Die))))
 
   starts_exit : (loops : ℕ) (m : Depth) (text : List Token) (a : Ended) → StatementAt Exit loops m text a
       → Starts loops m text a
-  starts_exit loops m text a h = go (is terminal.Exit (terminal_of x.0.kind)) refl
+  starts_exit loops m text a h = go (is (Of word.Exit) (terminal_of x.0.kind)) refl
     where
       x : (x : Token) × (rest : List Token) × (text ≡ x ∷ rest)
-          × ((is terminal.Exit (terminal_of x.kind) || is terminal.Die (terminal_of x.kind)) ≡ true)
+          × ((is (Of word.Exit) (terminal_of x.kind) || is (Of word.Die) (terminal_of x.kind)) ≡ true)
       x = exit_starts loops m text a h
 
       with_terminal : (s : Terminal) → begins_statement s ≡ true → Chosen loops s m text a
@@ -253,37 +254,39 @@ module _ (ends place_ends : Terminal → Bool) (known : AreRead ends place_ends)
         chosen = subst (λ k. Chosen loops k m text a) (sym (same_is (terminal_of x.0.kind) s e)) c;
       }
 
-      go : (b : Bool) → is terminal.Exit (terminal_of x.0.kind) ≡ b → Starts loops m text a
-      go true e = with_terminal terminal.Exit refl h e
+      go : (b : Bool) → is (Of word.Exit) (terminal_of x.0.kind) ≡ b → Starts loops m text a
+      go true e = with_terminal (Of word.Exit) refl h e
       go false e =
-          with_terminal terminal.Die refl h (ap (λ b. b || is terminal.Die (terminal_of x.0.kind)) (sym e) ∙ x.3)
+          with_terminal (Of word.Die) refl h (ap (λ b. b || is (Of word.Die) (terminal_of x.0.kind)) (sym e) ∙ x.3)
 
   pub starts : (loops : ℕ) (m : Depth) (text : List Token) (a : Ended) → AnyAt loops m text a → Starts loops m text a
   starts loops m text a (inl h) = starts_perform loops m text a h
-  starts loops m text a (inr (inl h)) = starts_with loops terminal.Echo refl (echo_starts loops) m text a h
-  starts loops m text a (inr (inr (inl h))) = starts_with loops terminal.OpenBrace refl (block_starts loops) m text a h
-  starts loops m text a (inr (inr (inr (inl h)))) = starts_with loops terminal.Semicolon refl empty_starts m text a h
+  starts loops m text a (inr (inl h)) = starts_with loops (Of word.Echo) refl (echo_starts loops) m text a h
+  starts loops m text a (inr (inr (inl h))) = starts_with loops (Of word.OpenBrace) refl (block_starts loops) m text a h
+  starts loops m text a (inr (inr (inr (inl h)))) = starts_with loops (Of word.Semicolon) refl empty_starts m text a h
   starts loops m text a (inr (inr (inr (inr (inl h))))) =
-      starts_with loops terminal.If refl (if_starts loops) m text a h
+      starts_with loops (Of word.If) refl (if_starts loops) m text a h
   starts loops m text a (inr (inr (inr (inr (inr (inl h)))))) =
-      starts_with loops terminal.While refl (while_starts loops) m text a h
+      starts_with loops (Of word.While) refl (while_starts loops) m text a h
   starts loops m text a (inr (inr (inr (inr (inr (inr (inl h))))))) =
-      starts_with loops terminal.Do refl (do_starts loops) m text a h
+      starts_with loops (Of word.Do) refl (do_starts loops) m text a h
   starts loops m text a (inr (inr (inr (inr (inr (inr (inr (inl h)))))))) =
-      starts_with loops terminal.For refl (for_starts loops) m text a h
+      starts_with loops (Of word.For) refl (for_starts loops) m text a h
   starts loops m text a (inr (inr (inr (inr (inr (inr (inr (inr (inl h))))))))) =
-      starts_with loops terminal.Foreach refl (foreach_starts loops) m text a h
+      starts_with loops (Of word.Foreach) refl (foreach_starts loops) m text a h
   starts loops m text a (inr (inr (inr (inr (inr (inr (inr (inr (inr (inl h)))))))))) =
-      starts_with loops terminal.Break refl (in_loop_starts loops terminal.Break (λ n. whole (tree.Break n))) m text a h
+      starts_with loops (Of word.Break) refl (in_loop_starts loops (Of word.Break) (λ n. whole (tree.Break n))) m text a
+      h
   starts loops m text a (inr (inr (inr (inr (inr (inr (inr (inr (inr (inr (inl h))))))))))) =
-      starts_with loops terminal.Continue refl (in_loop_starts loops terminal.Continue (λ n. whole (tree.Continue n))) m
+      starts_with loops (Of word.Continue) refl (in_loop_starts loops (Of word.Continue) (λ n. whole (tree.Continue n)))
+      m
       text a h
   starts loops m text a (inr (inr (inr (inr (inr (inr (inr (inr (inr (inr (inr (inl h)))))))))))) =
-      starts_with loops terminal.Return refl (return_starts loops) m text a h
+      starts_with loops (Of word.Return) refl (return_starts loops) m text a h
   starts loops m text a (inr (inr (inr (inr (inr (inr (inr (inr (inr (inr (inr (inr (inl h))))))))))))) =
-      starts_with loops terminal.Global refl global_starts m text a h
+      starts_with loops (Of word.Global) refl global_starts m text a h
   starts loops m text a (inr (inr (inr (inr (inr (inr (inr (inr (inr (inr (inr (inr (inr (inl h)))))))))))))) =
-      starts_with loops terminal.Unset refl (unset_starts loops) m text a h
+      starts_with loops (Of word.Unset) refl (unset_starts loops) m text a h
   starts loops m text a (inr (inr (inr (inr (inr (inr (inr (inr (inr (inr (inr (inr (inr (inr h)))))))))))))) =
       starts_exit loops m text a h
 
@@ -303,17 +306,17 @@ module _ (ends place_ends : Terminal → Bool) (known : AreRead ends place_ends)
       go zero text a none = absurd none
       go (suc n) text a h = line_starts loops (record { expressions = m.expressions; bodies = n }) text a h
 
-  pub braced_starts : (loops : ℕ) → StartsIn (BracedAt loops) (is terminal.OpenBrace)
+  pub braced_starts : (loops : ℕ) → StartsIn (BracedAt loops) (is (Of word.OpenBrace))
   braced_starts loops =
-      joined_starts (MarkAt terminal.OpenBrace) _ (is terminal.OpenBrace) (mark_starts terminal.OpenBrace)
+      joined_starts (MarkAt (Of word.OpenBrace)) _ (is (Of word.OpenBrace)) (mark_starts (Of word.OpenBrace))
 
-  pub braced_line_starts : (loops : ℕ) → StartsIn (BracedLineAt loops) (is terminal.OpenBrace)
+  pub braced_line_starts : (loops : ℕ) → StartsIn (BracedLineAt loops) (is (Of word.OpenBrace))
   braced_line_starts loops =
-      online_starts (λ line. MadeAt (BracedAt loops) (stated line)) (is terminal.OpenBrace)
-      (λ line. made_starts (BracedAt loops) (stated line) (is terminal.OpenBrace) (braced_starts loops))
+      online_starts (λ line. MadeAt (BracedAt loops) (stated line)) (is (Of word.OpenBrace))
+      (λ line. made_starts (BracedAt loops) (stated line) (is (Of word.OpenBrace)) (braced_starts loops))
 
   pub head_starts : (loops : ℕ) → StartsIn (HeadBodyAt loops) begins_statement
-  head_starts loops = either_starts (BracedLineAt loops) (WithoutAt terminal.OpenBrace (BodyAt loops)) begins_statement
-      (starts_in_more (BracedLineAt loops) (is terminal.OpenBrace) begins_statement
-      (mark_passes begins_statement terminal.OpenBrace refl) (braced_line_starts loops))
-      (without_starts terminal.OpenBrace (BodyAt loops) begins_statement (body_starts loops))
+  head_starts loops = either_starts (BracedLineAt loops) (WithoutAt (Of word.OpenBrace) (BodyAt loops)) begins_statement
+      (starts_in_more (BracedLineAt loops) (is (Of word.OpenBrace)) begins_statement
+      (mark_passes begins_statement (Of word.OpenBrace) refl) (braced_line_starts loops))
+      (without_starts (Of word.OpenBrace) (BodyAt loops) begins_statement (body_starts loops))

@@ -9,6 +9,8 @@ use Rattle.dp_lexer.specs.declared.token.TokenKind.TheVariants as kind
 use Rattle.dp_parse.specs.declared.ended.Ended.{Ended}
 use Rattle.dp_parse.specs.declared.ended.Body.{Body}
 use Rattle.dp_parse.specs.declared.ended.Parts.{Parts}
+use Rattle.dp_token_rules.specs.declared.terminal.Terminal.TheVariants.{Of}
+use Rattle.dp_lexer.specs.declared.token.Word.TheVariants as word
 use Rattle.dp_token_rules.specs.declared.terminal.Terminal.{Terminal}
 use Rattle.dp_token_rules.specs.declared.terminal.Terminal.TheVariants as terminal
 use Rattle.dp_token_rules.specs.Terminals.{is, terminal_of}
@@ -56,28 +58,29 @@ OnItsLine rule = OnLine (λ line. Made rule (stated line))
 abbrev pub Bodies : Rule Body → Rule (List Statement)
 Bodies body =
     Closed (λ all. Made body (λ b. all ++ b.statement ∷ []))
-    (λ all. Made (Mark terminal.CloseBrace) (λ _. all)) []
+    (λ all. Made (Mark (Of word.CloseBrace)) (λ _. all)) []
 
 -- "{" *stmt "}"
 abbrev pub Braced : Rule Body → Rule Ended
 Braced body = do
-  Mark terminal.OpenBrace
+  Mark (Of word.OpenBrace)
   all ← Bodies body
   Gives (whole (tree.Block all))
 
 -- The body of a head is a statement. Where it is one in braces, it is no block that counts for
 -- itself.
 abbrev pub HeadBody : Rule Body → Rule Body
-HeadBody body = OnItsLine (Braced body) or Without terminal.OpenBrace body
+HeadBody body = OnItsLine (Braced body) or Without (Of word.OpenBrace) body
 
 -- ";"
 abbrev pub Empty : Rule Ended
-Empty = Made (Mark terminal.Semicolon) (λ _. whole tree.Empty)
+Empty = Made (Mark (Of word.Semicolon)) (λ _. whole tree.Empty)
 
 -- elseif = "elseif" | "else" "if"
 abbrev pub ElseIf : Rule ℕ
 ElseIf =
-    Mark terminal.ElseIf or (Mark terminal.Else >>= (λ line. Made (Mark terminal.If) (λ _. line)))
+    Mark (Of word.ElseIf)
+    or (Mark (Of word.Else) >>= (λ line. Made (Mark (Of word.If)) (λ _. line)))
 
 -- the arms so far, of which the last one ends with this body
 abbrev pub Arms : Type 0
@@ -89,13 +92,13 @@ with_arm arms line test b = (arms ++ arm line test b.statement ∷ [], b.is_open
 -- var [ "=>" var ]
 abbrev pub Bound : Rule Binding
 Bound = Variable >>= (λ first.
-    Made (Mark terminal.Arrow >> Variable) (λ value. binding (Some first) value)
+    Made (Mark (Of word.Arrow) >> Variable) (λ value. binding (Some first) value)
     or Gives (binding None first))
 
 -- "global" var *( "," var ) ";"
 abbrev pub GlobalRule : Rule Ended
 GlobalRule =
-    Made (Mark terminal.Global >> PlainItems (λ _. Variable) terminal.Semicolon)
+    Made (Mark (Of word.Global) >> PlainItems (λ _. Variable) (Of word.Semicolon))
     (λ names. whole (tree.Global names))
 
 -- The number is how many levels of bodies are left, and the next in how many loops the statement
@@ -106,14 +109,14 @@ module _ (level : ℕ) (loops : ℕ) (expression : Rule Expression) (place : Rul
   abbrev pub Perform : Rule Ended
   Perform = do
     value ← expression
-    Mark terminal.Semicolon
+    Mark (Of word.Semicolon)
     Gives (whole (tree.Expression value))
 
   -- "echo" expr *( "," expr ) ";"
   abbrev pub Echo : Rule Ended
   Echo = do
-    Mark terminal.Echo
-    values ← PlainItems (λ _. expression) terminal.Semicolon
+    Mark (Of word.Echo)
+    values ← PlainItems (λ _. expression) (Of word.Semicolon)
     Gives (whole (tree.Echo values))
 
   -- "{" *stmt "}"
@@ -123,9 +126,9 @@ module _ (level : ℕ) (loops : ℕ) (expression : Rule Expression) (place : Rul
   -- "(" expr ")"
   abbrev pub Test : Rule Expression
   Test = do
-    Mark terminal.OpenParenthesis
+    Mark (Of word.OpenParenthesis)
     test ← expression
-    Mark terminal.CloseParenthesis
+    Mark (Of word.CloseParenthesis)
     Gives test
 
   -- "(" expr ")" stmt, behind the word on this line
@@ -142,14 +145,14 @@ module _ (level : ℕ) (loops : ℕ) (expression : Rule Expression) (place : Rul
   -- "else" stmt, where the body before it takes none. With an `if` behind it, it is an elseif.
   abbrev pub Otherwise : Arms → Rule Ended
   Otherwise a = When (not a.1) (do
-    Mark terminal.Else
-    b ← Without terminal.If (HeadBody (body loops))
+    Mark (Of word.Else)
+    b ← Without (Of word.If) (HeadBody (body loops))
     Gives (ended (tree.If a.0 (Some b.statement)) b.is_open))
 
   -- "if" "(" expr ")" stmt *( elseif "(" expr ")" stmt ) [ "else" stmt ]
   abbrev pub If : Rule Ended
   If = Nests level (do
-    line ← Mark terminal.If
+    line ← Mark (Of word.If)
     first ← ArmRule [] line
     Closed NextArm (λ a. Otherwise a or Gives (ended (tree.If a.0 None) true)) first)
 
@@ -160,52 +163,52 @@ module _ (level : ℕ) (loops : ℕ) (expression : Rule Expression) (place : Rul
   -- "while" "(" expr ")" stmt
   abbrev pub While : Rule Ended
   While = Nests level (do
-    Mark terminal.While
+    Mark (Of word.While)
     test ← Test
     LoopBody (λ b. tree.While test b))
 
   -- "do" stmt "while" "(" expr ")" ";"
   abbrev pub DoWhile : Rule Ended
   DoWhile = Nests level (do
-    Mark terminal.Do
+    Mark (Of word.Do)
     b ← HeadBody (body (suc loops))
-    line ← Mark terminal.While
+    line ← Mark (Of word.While)
     test ← Test
-    Mark terminal.Semicolon
+    Mark (Of word.Semicolon)
     Gives (whole (tree.DoWhile b.statement line test)))
 
   -- "for" "(" exprs ";" exprs ";" exprs ")" stmt
   abbrev pub For : Rule Ended
   For = Nests level (do
-    Mark terminal.For
-    Mark terminal.OpenParenthesis
-    before ← AnyPlainItems (λ _. expression) terminal.Semicolon
-    tests ← AnyPlainItems (λ _. expression) terminal.Semicolon
-    after ← AnyPlainItems (λ _. expression) terminal.CloseParenthesis
+    Mark (Of word.For)
+    Mark (Of word.OpenParenthesis)
+    before ← AnyPlainItems (λ _. expression) (Of word.Semicolon)
+    tests ← AnyPlainItems (λ _. expression) (Of word.Semicolon)
+    after ← AnyPlainItems (λ _. expression) (Of word.CloseParenthesis)
     LoopBody (λ b. tree.For before tests after b))
 
   -- "foreach" "(" expr "as" var [ "=>" var ] ")" stmt
   abbrev pub Foreach : Rule Ended
   Foreach = Nests level (do
-    Mark terminal.Foreach
-    Mark terminal.OpenParenthesis
+    Mark (Of word.Foreach)
+    Mark (Of word.OpenParenthesis)
     subject ← expression
-    Mark terminal.As
+    Mark (Of word.As)
     bound ← Bound
-    Mark terminal.CloseParenthesis
+    Mark (Of word.CloseParenthesis)
     LoopBody (λ b. tree.Foreach subject bound b))
 
   -- [ number ] ";", where none is 1
   abbrev pub Loops : Rule ℕ
-  Loops = (Kind (number_up_to loops) or Gives 1) >>= (λ n. Made (Mark terminal.Semicolon) (λ _. n))
+  Loops = (Kind (number_up_to loops) or Gives 1) >>= (λ n. Made (Mark (Of word.Semicolon)) (λ _. n))
 
   -- ( "break" | "continue" ) [ number ] ";", in a loop
   abbrev pub Break : Rule Ended
-  Break = When (nat_lt 0 loops) (Made (Mark terminal.Break >> Loops) (λ n. whole (tree.Break n)))
+  Break = When (nat_lt 0 loops) (Made (Mark (Of word.Break) >> Loops) (λ n. whole (tree.Break n)))
 
   abbrev pub Continue : Rule Ended
   Continue =
-      When (nat_lt 0 loops) (Made (Mark terminal.Continue >> Loops) (λ n. whole (tree.Continue n)))
+      When (nat_lt 0 loops) (Made (Mark (Of word.Continue) >> Loops) (λ n. whole (tree.Continue n)))
 
   -- [ expr ] and what ends it
   abbrev pub MaybeUpTo : Rule ℕ → Rule (Option Expression)
@@ -214,28 +217,28 @@ module _ (level : ℕ) (loops : ℕ) (expression : Rule Expression) (place : Rul
   -- "return" [ expr ] ";"
   abbrev pub Return : Rule Ended
   Return =
-      Made (Mark terminal.Return >> MaybeUpTo (Mark terminal.Semicolon))
+      Made (Mark (Of word.Return) >> MaybeUpTo (Mark (Of word.Semicolon)))
       (λ value. whole (tree.Return value))
 
   -- "unset" "(" places ")" ";"
   abbrev pub Unset : Rule Ended
   Unset = do
-    Mark terminal.Unset
-    Mark terminal.OpenParenthesis
-    places ← SomeItems (λ _. place) terminal.CloseParenthesis
-    Mark terminal.Semicolon
+    Mark (Of word.Unset)
+    Mark (Of word.OpenParenthesis)
+    places ← SomeItems (λ _. place) (Of word.CloseParenthesis)
+    Mark (Of word.Semicolon)
     Gives (whole (tree.Unset places))
 
   -- ( "exit" | "die" ) [ "(" [ expr ] ")" ] ";"
   abbrev pub ExitValue : Rule (Option Expression)
   ExitValue =
-      (Mark terminal.OpenParenthesis >> MaybeUpTo (Mark terminal.CloseParenthesis)) or Gives None
+      (Mark (Of word.OpenParenthesis) >> MaybeUpTo (Mark (Of word.CloseParenthesis))) or Gives None
 
   abbrev pub Exit : Rule Ended
   Exit = do
-    Mark terminal.Exit or Mark terminal.Die
+    Mark (Of word.Exit) or Mark (Of word.Die)
     value ← ExitValue
-    Mark terminal.Semicolon
+    Mark (Of word.Semicolon)
     Gives (whole (tree.Exit value))
 
   abbrev pub AnyStatement : Rule Ended
@@ -271,11 +274,11 @@ function_of line name parameters body =
 -- "function" name "(" [ var *( "," var ) [ "," ] ] ")" "{" *stmt "}"
 abbrev pub FunctionRule : Depth → Rule Function
 FunctionRule depth = Nests depth.bodies (do
-  line ← Mark terminal.Function
+  line ← Mark (Of word.Function)
   name ← Kind name_in
-  Mark terminal.OpenParenthesis
-  parameters ← AnyItems (λ found. Kind (parameter_in found)) terminal.CloseParenthesis
-  Mark terminal.OpenBrace
+  Mark (Of word.OpenParenthesis)
+  parameters ← AnyItems (λ found. Kind (parameter_in found)) (Of word.CloseParenthesis)
+  Mark (Of word.OpenBrace)
   all ← Bodies (body_at depth.expressions depth.bodies 0)
   Gives (function_of line name parameters all))
 
@@ -294,17 +297,17 @@ with_function parts f = record { body = parts.body; functions = parts.functions 
 abbrev pub never_constant : Terminal → Bool
 never_constant terminal.Variable = true
 never_constant terminal.Superglobal = true
-never_constant terminal.Isset = true
-never_constant terminal.Include = true
-never_constant terminal.Require = true
-never_constant terminal.Increment = true
-never_constant terminal.Decrement = true
-never_constant terminal.Semicolon = true
+never_constant (Of word.Isset) = true
+never_constant (Of word.Include) = true
+never_constant (Of word.Require) = true
+never_constant (Of word.Increment) = true
+never_constant (Of word.Decrement) = true
+never_constant (Of word.Semicolon) = true
 never_constant _ = false
 
 -- such a token, or, behind a name, the parenthesis of a call
 abbrev pub ends_constant : Bool → Terminal → Bool
-ends_constant named s = never_constant s || (is terminal.OpenParenthesis s && named)
+ends_constant named s = never_constant s || (is (Of word.OpenParenthesis) s && named)
 
 -- No variable, `isset`, include, call or `;` stands among these tokens, which stand behind a name
 -- or not.
@@ -326,13 +329,13 @@ definition_of name value = record { name = name; value = value }
 abbrev pub DefinitionRule : Rule Expression → Rule Definition
 DefinitionRule expression = do
   name ← Kind name_in
-  Mark terminal.Assign
+  Mark (Of word.Assign)
   value ← expression
   Gives (definition_of name value)
 
 -- "," name "=" expr
 abbrev pub NextDefinition : Rule Expression → Rule Definition
-NextDefinition expression = Mark terminal.Comma >> DefinitionRule expression
+NextDefinition expression = Mark (Of word.Comma) >> DefinitionRule expression
 
 -- "const" name "=" expr *( "," name "=" expr )
 abbrev pub Definitions : Rule Expression → Rule (List Definition)
@@ -348,7 +351,7 @@ Definitions expression = do
 abbrev pub ConstantsRule : Rule Expression → Rule Ended
 ConstantsRule expression = do
   all ← OfConstants (Definitions expression)
-  Mark terminal.Semicolon
+  Mark (Of word.Semicolon)
   Gives (whole (tree.Constants all))
 
 abbrev pub IsConstants : Depth → Rule Body
@@ -366,4 +369,4 @@ Spells depth =
 -- an expression by itself: expr [ ";" ]
 abbrev pub SpellsExpression : ℕ → Rule Expression
 SpellsExpression level =
-    IsExpression level >>= (λ e. Made (Perhaps (Mark terminal.Semicolon)) (λ _. e))
+    IsExpression level >>= (λ e. Made (Perhaps (Mark (Of word.Semicolon))) (λ _. e))

@@ -11,7 +11,7 @@ use crate::grammar::Statements;
 use crate::inside::Inside;
 use crate::levels::expression;
 use dp_expressions::both;
-use dp_token_rules::{Refusal, Terminal, Tokens, none, with};
+use dp_token_rules::{Refusal, Terminal, Tokens, Word, none, with};
 use dp_tree::{Arm, Expression, StatementKind};
 use dp_value::{Items, Memory};
 use std::alloc::Global;
@@ -37,9 +37,9 @@ impl<R: Inside> Statements<R> {
     pub(crate) fn test(&self, tokens: &mut Tokens<'_>) -> Result<Expression, Refusal>
         ensures { Reads (within spec.head_test self.now tokens.old) result tokens.new }
     {
-        tokens.mark(Terminal::OpenParenthesis)?;
+        tokens.mark(Terminal::Of(Word::OpenParenthesis))?;
         let test = expression(self.alloc(), tokens)?;
-        let (test, _) = both(test, tokens.mark(Terminal::CloseParenthesis))?;
+        let (test, _) = both(test, tokens.mark(Terminal::Of(Word::CloseParenthesis)))?;
         Ok(test)
     }
 
@@ -82,8 +82,8 @@ impl<R: Inside> Statements<R> {
         requires some { 0 < self.now.0 }
         ensures { Reads (within spec.behind_else self.now arms line tokens.old) result tokens.new }
     {
-        if tokens.sees(Terminal::If) {
-            tokens.mark(Terminal::If)?;
+        if tokens.sees(Terminal::Of(Word::If)) {
+            tokens.mark(Terminal::Of(Word::If))?;
             return Ok(ControlFlow::Continue(self.next_arm(tokens, arms, line)?));
         }
         Ok(ControlFlow::Break(self.otherwise(tokens, arms)?))
@@ -99,12 +99,12 @@ impl<R: Inside> Statements<R> {
         requires some { 0 < self.now.0 }
         ensures { Reads (within spec.arms_step self.now (arms, is_open) tokens.old) result tokens.new }
     {
-        if !is_open && tokens.sees(Terminal::ElseIf) {
-            let line = tokens.mark(Terminal::ElseIf)?;
+        if !is_open && tokens.sees(Terminal::Of(Word::ElseIf)) {
+            let line = tokens.mark(Terminal::Of(Word::ElseIf))?;
             return Ok(ControlFlow::Continue(self.next_arm(tokens, arms, line)?));
         }
-        if !is_open && tokens.sees(Terminal::Else) {
-            let line = tokens.mark(Terminal::Else)?;
+        if !is_open && tokens.sees(Terminal::Of(Word::Else)) {
+            let line = tokens.mark(Terminal::Of(Word::Else))?;
             return self.behind_else(tokens, arms, line);
         }
         let otherwise = None;
@@ -134,7 +134,7 @@ impl<R: Inside> Statements<R> {
         ensures { Reads (within spec.if_rule self.now tokens.old) result tokens.new }
     {
         self.enter(tokens)?;
-        let line = tokens.mark(Terminal::If)?;
+        let line = tokens.mark(Terminal::Of(Word::If))?;
         let first = self.next_arm(tokens, none(self.alloc()), line)?;
         self.arms(tokens, first)
     }

@@ -10,7 +10,7 @@ ghost use Rattle.dp_parse.specs.inner.Within as limited;
 use crate::ended::{Body, Ended, stated, whole};
 use crate::levels::expression;
 use dp_expressions::both;
-use dp_token_rules::{Piece, Refusal, Terminal, Tokens, many};
+use dp_token_rules::{Piece, Refusal, Terminal, Tokens, Word, many};
 use dp_tree::{Definition, StatementKind};
 use dp_value::{Items, Memory};
 use std::alloc::Global;
@@ -22,13 +22,13 @@ fn ends_constant(is_named: bool, terminal: Terminal) -> bool
     match terminal {
         Terminal::Variable
         | Terminal::Superglobal
-        | Terminal::Isset
-        | Terminal::Include
-        | Terminal::Require
-        | Terminal::Increment
-        | Terminal::Decrement
-        | Terminal::Semicolon => true,
-        Terminal::OpenParenthesis => is_named,
+        | Terminal::Of(Word::Isset)
+        | Terminal::Of(Word::Include)
+        | Terminal::Of(Word::Require)
+        | Terminal::Of(Word::Increment)
+        | Terminal::Of(Word::Decrement)
+        | Terminal::Of(Word::Semicolon) => true,
+        Terminal::Of(Word::OpenParenthesis) => is_named,
         _ => false,
     }
 }
@@ -57,7 +57,7 @@ fn definition(alloc: Global, tokens: &mut Tokens<'_>) -> Result<Definition, Refu
     ensures { Reads (spec.definition limited.expression tokens.old) result tokens.new }
 {
     let name = tokens.name(alloc)?;
-    let (name, _) = both(name, tokens.mark(Terminal::Assign))?;
+    let (name, _) = both(name, tokens.mark(Terminal::Of(Word::Assign)))?;
     let (name, value) = both(name, expression(alloc, tokens))?;
     Ok(Definition { name, value })
 }
@@ -74,7 +74,7 @@ impl Piece<Definition> for NextDefinition {
     ghost ready = { λ _. ⊤ };
 
     fn read(&self, tokens: &mut Tokens<'_>) -> Result<Definition, Refusal> {
-        tokens.mark(Terminal::Comma)?;
+        tokens.mark(Terminal::Of(Word::Comma))?;
         definition(self.alloc, tokens)
     }
 }
@@ -97,7 +97,12 @@ fn definitions(alloc: Global, tokens: &mut Tokens<'_>) -> Result<Items<Definitio
     let first = definition(alloc, tokens)?;
     let (first, more) = both(
         first,
-        many(alloc, tokens, Terminal::Comma, &NextDefinition { alloc }),
+        many(
+            alloc,
+            tokens,
+            Terminal::Of(Word::Comma),
+            &NextDefinition { alloc },
+        ),
     )?;
     Ok(in_front(first, more)?)
 }
@@ -140,7 +145,7 @@ fn constants_rule(alloc: Global, tokens: &mut Tokens<'_>) -> Result<Ended, Refus
     ensures { Reads (spec.constants_rule limited.expression tokens.old) result tokens.new }
 {
     let all = constant_definitions(alloc, tokens)?;
-    let (all, _) = both(all, tokens.mark(Terminal::Semicolon))?;
+    let (all, _) = both(all, tokens.mark(Terminal::Of(Word::Semicolon)))?;
     whole(alloc, tokens, StatementKind::Constants(all))
 }
 

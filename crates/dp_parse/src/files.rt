@@ -14,7 +14,7 @@ use crate::levels::{BODY_LEVELS, expression};
 use crate::parameters::parameters;
 use crate::statements::{bodies_over, statement};
 use dp_expressions::both;
-use dp_token_rules::{Refusal, Terminal, Tokens, enter, none, with};
+use dp_token_rules::{Refusal, Terminal, Tokens, Word, enter, none, with};
 use dp_tree::{Expression, Function, Statement};
 use dp_value::{Items, Memory};
 use std::alloc::Global;
@@ -47,11 +47,11 @@ pub(crate) fn function(alloc: Global, tokens: &mut Tokens<'_>) -> Result<Functio
     ensures { Reads (spec.function_rule limits.limits tokens.old) result tokens.new }
 {
     enter(BODY_LEVELS, tokens)?;
-    let line = tokens.mark(Terminal::Function)?;
+    let line = tokens.mark(Terminal::Of(Word::Function))?;
     let name = tokens.name(alloc)?;
-    tokens.mark(Terminal::OpenParenthesis)?;
+    tokens.mark(Terminal::Of(Word::OpenParenthesis))?;
     let parameters = parameters(alloc, tokens)?;
-    tokens.mark(Terminal::OpenBrace)?;
+    tokens.mark(Terminal::Of(Word::OpenBrace))?;
     let body = function_body(alloc, tokens)?;
     Ok(Function {
         line,
@@ -97,7 +97,7 @@ fn file_step(
     if tokens.sees(Terminal::End) {
         return Ok(ControlFlow::Break(parts));
     }
-    if tokens.sees(Terminal::Function) {
+    if tokens.sees(Terminal::Of(Word::Function)) {
         let function = function(alloc, tokens)?;
         return Ok(ControlFlow::Continue(with_function(parts, function)?));
     }
@@ -146,10 +146,10 @@ fn at_end(tokens: &mut Tokens<'_>, found: Expression) -> Result<Expression, Refu
 fn semicolon(tokens: &mut Tokens<'_>, found: Expression) -> Result<Expression, Refusal>
     ensures { Reads (spec.semicolon found tokens.old) result tokens.new }
 {
-    if !tokens.sees(Terminal::Semicolon) {
+    if !tokens.sees(Terminal::Of(Word::Semicolon)) {
         return at_end(tokens, found);
     }
-    let (found, _) = both(found, tokens.mark(Terminal::Semicolon))?;
+    let (found, _) = both(found, tokens.mark(Terminal::Of(Word::Semicolon)))?;
     at_end(tokens, found)
 }
 

@@ -12,7 +12,7 @@ use crate::grammar::Statements;
 use crate::inside::Inside;
 use crate::levels::{expression, some_places};
 use dp_expressions::both;
-use dp_token_rules::{Piece, Refusal, Terminal, Tokens, plain_items};
+use dp_token_rules::{Piece, Refusal, Terminal, Tokens, Word, plain_items};
 use dp_tree::{Expression, StatementKind};
 use dp_value::{Bytes, Items};
 use std::alloc::Global;
@@ -35,12 +35,13 @@ impl Piece<Bytes> for ListedVariable {
 
 /// One variable or more, and what closes them.
 fn variables(alloc: Global, tokens: &mut Tokens<'_>) -> Result<Items<Bytes>, Refusal>
-    ensures { Reads (lists.plain_items (λ _. input.variable) Terminal.Semicolon tokens.old) result tokens.new }
+    ensures { Reads (lists.plain_items (λ _. input.variable) (Terminal.Of Word.Semicolon) tokens.old) result
+        tokens.new }
 {
     plain_items(
         alloc,
         tokens,
-        Terminal::Semicolon,
+        Terminal::Of(Word::Semicolon),
         &ListedVariable { alloc },
     )
 }
@@ -50,7 +51,7 @@ fn variables(alloc: Global, tokens: &mut Tokens<'_>) -> Result<Items<Bytes>, Ref
 pub(crate) fn global_rule(alloc: Global, tokens: &mut Tokens<'_>) -> Result<Ended, Refusal>
     ensures { Reads (spec.global_rule tokens.old) result tokens.new }
 {
-    tokens.mark(Terminal::Global)?;
+    tokens.mark(Terminal::Of(Word::Global))?;
     let names = variables(alloc, tokens)?;
     whole(alloc, tokens, StatementKind::Global(names))
 }
@@ -60,10 +61,10 @@ pub(crate) fn global_rule(alloc: Global, tokens: &mut Tokens<'_>) -> Result<Ende
 fn exit_word(tokens: &mut Tokens<'_>) -> Result<u32, Refusal>
     ensures { Reads (spec.exit_word tokens.old) result tokens.new }
 {
-    if tokens.sees(Terminal::Exit) {
-        tokens.mark(Terminal::Exit)
+    if tokens.sees(Terminal::Of(Word::Exit)) {
+        tokens.mark(Terminal::Of(Word::Exit))
     } else {
-        tokens.mark(Terminal::Die)
+        tokens.mark(Terminal::Of(Word::Die))
     }
 }
 
@@ -86,7 +87,7 @@ impl<R: Inside> Statements<R> {
         ensures { Reads (within spec.loops_rule self.now tokens.old) result tokens.new }
     {
         let count = self.levels(tokens)?;
-        tokens.mark(Terminal::Semicolon)?;
+        tokens.mark(Terminal::Of(Word::Semicolon))?;
         Ok(count)
     }
 
@@ -98,7 +99,7 @@ impl<R: Inside> Statements<R> {
         if self.loops() == 0 {
             return Err(tokens.refuse());
         }
-        tokens.mark(Terminal::Break)?;
+        tokens.mark(Terminal::Of(Word::Break))?;
         let count = self.loops_rule(tokens)?;
         whole(self.alloc(), tokens, StatementKind::Break(count))
     }
@@ -111,7 +112,7 @@ impl<R: Inside> Statements<R> {
         if self.loops() == 0 {
             return Err(tokens.refuse());
         }
-        tokens.mark(Terminal::Continue)?;
+        tokens.mark(Terminal::Of(Word::Continue))?;
         let count = self.loops_rule(tokens)?;
         whole(self.alloc(), tokens, StatementKind::Continue(count))
     }
@@ -139,8 +140,8 @@ impl<R: Inside> Statements<R> {
     pub(crate) fn return_rule(&self, tokens: &mut Tokens<'_>) -> Result<Ended, Refusal>
         ensures { Reads (within spec.return_rule self.now tokens.old) result tokens.new }
     {
-        tokens.mark(Terminal::Return)?;
-        let value = self.maybe_up_to(tokens, Terminal::Semicolon)?;
+        tokens.mark(Terminal::Of(Word::Return))?;
+        let value = self.maybe_up_to(tokens, Terminal::Of(Word::Semicolon))?;
         whole(self.alloc(), tokens, StatementKind::Return(value))
     }
 
@@ -149,10 +150,10 @@ impl<R: Inside> Statements<R> {
     pub(crate) fn unset(&self, tokens: &mut Tokens<'_>) -> Result<Ended, Refusal>
         ensures { Reads (within spec.unset self.now tokens.old) result tokens.new }
     {
-        tokens.mark(Terminal::Unset)?;
-        tokens.mark(Terminal::OpenParenthesis)?;
-        let places = some_places(self.alloc(), tokens, Terminal::CloseParenthesis)?;
-        tokens.mark(Terminal::Semicolon)?;
+        tokens.mark(Terminal::Of(Word::Unset))?;
+        tokens.mark(Terminal::Of(Word::OpenParenthesis))?;
+        let places = some_places(self.alloc(), tokens, Terminal::Of(Word::CloseParenthesis))?;
+        tokens.mark(Terminal::Of(Word::Semicolon))?;
         whole(self.alloc(), tokens, StatementKind::Unset(places))
     }
 
@@ -161,9 +162,9 @@ impl<R: Inside> Statements<R> {
     fn exit_value(&self, tokens: &mut Tokens<'_>) -> Result<Option<Expression>, Refusal>
         ensures { Reads (within spec.exit_value self.now tokens.old) result tokens.new }
     {
-        if tokens.sees(Terminal::OpenParenthesis) {
-            tokens.mark(Terminal::OpenParenthesis)?;
-            self.maybe_up_to(tokens, Terminal::CloseParenthesis)
+        if tokens.sees(Terminal::Of(Word::OpenParenthesis)) {
+            tokens.mark(Terminal::Of(Word::OpenParenthesis))?;
+            self.maybe_up_to(tokens, Terminal::Of(Word::CloseParenthesis))
         } else {
             Ok(None)
         }
@@ -176,7 +177,7 @@ impl<R: Inside> Statements<R> {
     {
         exit_word(tokens)?;
         let value = self.exit_value(tokens)?;
-        let (value, _) = both(value, tokens.mark(Terminal::Semicolon))?;
+        let (value, _) = both(value, tokens.mark(Terminal::Of(Word::Semicolon)))?;
         whole(self.alloc(), tokens, StatementKind::Exit(value))
     }
 }

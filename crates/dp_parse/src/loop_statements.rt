@@ -11,7 +11,7 @@ use crate::grammar::Statements;
 use crate::inside::Inside;
 use crate::levels::{any_expressions, expression};
 use dp_expressions::both;
-use dp_token_rules::{Refusal, Terminal, Tokens};
+use dp_token_rules::{Refusal, Terminal, Tokens, Word};
 use dp_tree::{Binding, Expression, StatementKind};
 use dp_value::Bytes;
 use std::alloc::Global;
@@ -21,8 +21,8 @@ use std::alloc::Global;
 fn bound_rest(alloc: Global, tokens: &mut Tokens<'_>, first: Bytes) -> Result<Binding, Refusal>
     ensures { Reads (spec.bound_rest first tokens.old) result tokens.new }
 {
-    if tokens.sees(Terminal::Arrow) {
-        tokens.mark(Terminal::Arrow)?;
+    if tokens.sees(Terminal::Of(Word::Arrow)) {
+        tokens.mark(Terminal::Of(Word::Arrow))?;
         let value = tokens.variable(alloc)?;
         return Ok(Binding {
             key: Some(first),
@@ -59,7 +59,7 @@ impl<R: Inside> Statements<R> {
         ensures { Reads (within spec.while_rule self.now tokens.old) result tokens.new }
     {
         self.enter(tokens)?;
-        tokens.mark(Terminal::While)?;
+        tokens.mark(Terminal::Of(Word::While))?;
         let test = self.test(tokens)?;
         let (test, found) = both(test, self.looped(tokens))?;
         let Body { statement, is_open } = found;
@@ -78,12 +78,12 @@ impl<R: Inside> Statements<R> {
         ensures { Reads (within spec.do_while self.now tokens.old) result tokens.new }
     {
         self.enter(tokens)?;
-        tokens.mark(Terminal::Do)?;
+        tokens.mark(Terminal::Of(Word::Do))?;
         let found = self.looped(tokens)?;
         let body = found.statement;
-        let line = tokens.mark(Terminal::While)?;
+        let line = tokens.mark(Terminal::Of(Word::While))?;
         let test = self.test(tokens)?;
-        let (test, _) = both(test, tokens.mark(Terminal::Semicolon))?;
+        let (test, _) = both(test, tokens.mark(Terminal::Of(Word::Semicolon)))?;
         whole(
             self.alloc(),
             tokens,
@@ -97,11 +97,11 @@ impl<R: Inside> Statements<R> {
         ensures { Reads (within spec.for_rule self.now tokens.old) result tokens.new }
     {
         self.enter(tokens)?;
-        tokens.mark(Terminal::For)?;
-        tokens.mark(Terminal::OpenParenthesis)?;
-        let before = any_expressions(self.alloc(), tokens, Terminal::Semicolon)?;
-        let tests = any_expressions(self.alloc(), tokens, Terminal::Semicolon)?;
-        let after = any_expressions(self.alloc(), tokens, Terminal::CloseParenthesis)?;
+        tokens.mark(Terminal::Of(Word::For))?;
+        tokens.mark(Terminal::Of(Word::OpenParenthesis))?;
+        let before = any_expressions(self.alloc(), tokens, Terminal::Of(Word::Semicolon))?;
+        let tests = any_expressions(self.alloc(), tokens, Terminal::Of(Word::Semicolon))?;
+        let after = any_expressions(self.alloc(), tokens, Terminal::Of(Word::CloseParenthesis))?;
         let Body { statement, is_open } = self.looped(tokens)?;
         let kind = StatementKind::For {
             before,
@@ -118,8 +118,8 @@ impl<R: Inside> Statements<R> {
         ensures { Reads (within spec.foreach self.now tokens.old) result tokens.new }
     {
         self.enter(tokens)?;
-        tokens.mark(Terminal::Foreach)?;
-        tokens.mark(Terminal::OpenParenthesis)?;
+        tokens.mark(Terminal::Of(Word::Foreach))?;
+        tokens.mark(Terminal::Of(Word::OpenParenthesis))?;
         let subject = expression(self.alloc(), tokens)?;
         self.foreach_bound(tokens, subject)
     }
@@ -129,9 +129,9 @@ impl<R: Inside> Statements<R> {
         requires { 0 < self.now.0 }
         ensures { Reads (within spec.foreach_bound self.now subject tokens.old) result tokens.new }
     {
-        let (subject, _) = both(subject, tokens.mark(Terminal::As))?;
+        let (subject, _) = both(subject, tokens.mark(Terminal::Of(Word::As)))?;
         let (subject, binding) = both(subject, bound(self.alloc(), tokens))?;
-        let (subject, _) = both(subject, tokens.mark(Terminal::CloseParenthesis))?;
+        let (subject, _) = both(subject, tokens.mark(Terminal::Of(Word::CloseParenthesis)))?;
         self.foreach_body(tokens, subject, binding)
     }
 

@@ -6,7 +6,7 @@ ghost use Rattle.dp_parse.specs.inner.Parameters as spec;
 ghost use Rattle.dp_token_rules.specs.inner.ListReaders as lists;
 
 use crate::names::Names;
-use dp_token_rules::{Refusal, Terminal, Tokens};
+use dp_token_rules::{Refusal, Terminal, Tokens, Word};
 use dp_value::{Bytes, Items};
 use std::alloc::Global;
 use std::ops::ControlFlow;
@@ -31,10 +31,11 @@ fn behind_comma(
     tokens: &mut Tokens<'_>,
     found: Names,
 ) -> Result<ControlFlow<Names, Names>, Refusal>
-    ensures { Reads (lists.behind_comma spec.checked Terminal.CloseParenthesis found tokens.old) result tokens.new }
+    ensures { Reads (lists.behind_comma spec.checked (Terminal.Of Word.CloseParenthesis) found tokens.old)
+        result tokens.new }
 {
-    if tokens.sees(Terminal::CloseParenthesis) {
-        tokens.mark(Terminal::CloseParenthesis)?;
+    if tokens.sees(Terminal::Of(Word::CloseParenthesis)) {
+        tokens.mark(Terminal::Of(Word::CloseParenthesis))?;
         return Ok(ControlFlow::Break(found));
     }
     Ok(ControlFlow::Continue(parameter(alloc, tokens, found)?))
@@ -46,20 +47,21 @@ fn comma_step(
     tokens: &mut Tokens<'_>,
     found: Names,
 ) -> Result<ControlFlow<Names, Names>, Refusal>
-    ensures { Reads (lists.comma_step spec.checked Terminal.CloseParenthesis found tokens.old) result tokens.new }
+    ensures { Reads (lists.comma_step spec.checked (Terminal.Of Word.CloseParenthesis) found tokens.old)
+        result tokens.new }
 {
-    if tokens.sees(Terminal::Comma) {
-        tokens.mark(Terminal::Comma)?;
+    if tokens.sees(Terminal::Of(Word::Comma)) {
+        tokens.mark(Terminal::Of(Word::Comma))?;
         return behind_comma(alloc, tokens, found);
     }
-    tokens.mark(Terminal::CloseParenthesis)?;
+    tokens.mark(Terminal::Of(Word::CloseParenthesis))?;
     Ok(ControlFlow::Break(found))
 }
 
 /// The first parameter with those behind it, up to the `)`; one comma may stand before that.
 #[tactic(auto, using(dp_grammar::proofs::Turns::turns))]
 fn comma_turns(alloc: Global, tokens: &mut Tokens<'_>, first: Names) -> Result<Names, Refusal>
-    ensures { Reads (closed (lists.comma_step spec.checked Terminal.CloseParenthesis) first tokens.old) result
+    ensures { Reads (closed (lists.comma_step spec.checked (Terminal.Of Word.CloseParenthesis)) first tokens.old) result
         tokens.new }
 {
     let mut state = first;
@@ -75,7 +77,7 @@ fn comma_turns(alloc: Global, tokens: &mut Tokens<'_>, first: Names) -> Result<N
 /// Reads one parameter or more up to the `)`; refuses at a name that one before it has.
 #[tactic(auto, unfolding(dp_token_rules::specs::inner::ListReaders::some_items))]
 fn some_parameters(alloc: Global, tokens: &mut Tokens<'_>) -> Result<Names, Refusal>
-    ensures { Reads (lists.some_items spec.checked Terminal.CloseParenthesis tokens.old) result tokens.new }
+    ensures { Reads (lists.some_items spec.checked (Terminal.Of Word.CloseParenthesis) tokens.old) result tokens.new }
 {
     let first = parameter(alloc, tokens, Names::new(alloc))?;
     comma_turns(alloc, tokens, first)
@@ -84,10 +86,10 @@ fn some_parameters(alloc: Global, tokens: &mut Tokens<'_>) -> Result<Names, Refu
 /// Reads any number of parameters up to the `)`; refuses at a name that one before it has.
 #[tactic(auto, unfolding(dp_token_rules::specs::inner::ListReaders::any_items))]
 fn checked_parameters(alloc: Global, tokens: &mut Tokens<'_>) -> Result<Items<Bytes>, Refusal>
-    ensures { Reads (lists.any_items spec.checked Terminal.CloseParenthesis tokens.old) result tokens.new }
+    ensures { Reads (lists.any_items spec.checked (Terminal.Of Word.CloseParenthesis) tokens.old) result tokens.new }
 {
-    if tokens.sees(Terminal::CloseParenthesis) {
-        tokens.mark(Terminal::CloseParenthesis)?;
+    if tokens.sees(Terminal::Of(Word::CloseParenthesis)) {
+        tokens.mark(Terminal::Of(Word::CloseParenthesis))?;
         return Ok(Items::of(Vec::new(alloc)));
     }
     let names = some_parameters(alloc, tokens)?;
@@ -97,7 +99,7 @@ fn checked_parameters(alloc: Global, tokens: &mut Tokens<'_>) -> Result<Items<By
 /// The parameters of a function behind its `(`, and the `)`.
 #[tactic(auto, using(crate::proofs::ParameterLemmas::parameters_are))]
 pub(crate) fn parameters(alloc: Global, tokens: &mut Tokens<'_>) -> Result<Items<Bytes>, Refusal>
-    ensures { Reads (lists.any_items spec.parameter Terminal.CloseParenthesis tokens.old) result tokens.new }
+    ensures { Reads (lists.any_items spec.parameter (Terminal.Of Word.CloseParenthesis) tokens.old) result tokens.new }
 {
     checked_parameters(alloc, tokens)
 }

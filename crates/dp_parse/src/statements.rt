@@ -13,7 +13,7 @@ use crate::inside::{Called, Inside};
 use crate::jumps::global_rule;
 use crate::levels::{expression, some_expressions};
 use dp_expressions::both;
-use dp_token_rules::{Refusal, Terminal, Tokens, none};
+use dp_token_rules::{Refusal, Terminal, Tokens, Word, none};
 use dp_tree::{Statement, StatementKind};
 use dp_value::Items;
 use std::alloc::Global;
@@ -24,7 +24,7 @@ use std::ops::ControlFlow;
 fn empty(alloc: Global, tokens: &mut Tokens<'_>) -> Result<Ended, Refusal>
     ensures { Reads (spec.empty tokens.old) result tokens.new }
 {
-    tokens.mark(Terminal::Semicolon)?;
+    tokens.mark(Terminal::Of(Word::Semicolon))?;
     whole(alloc, tokens, StatementKind::Empty)
 }
 
@@ -40,8 +40,8 @@ impl<R: Inside> Statements<R> {
         requires near { loops ≤ self.now.1 + 1 }
         ensures { Reads (spec.bodies_step (limited.body self.now.0 loops) all tokens.old) result tokens.new }
     {
-        if tokens.sees(Terminal::CloseBrace) {
-            tokens.mark(Terminal::CloseBrace)?;
+        if tokens.sees(Terminal::Of(Word::CloseBrace)) {
+            tokens.mark(Terminal::Of(Word::CloseBrace))?;
             return Ok(ControlFlow::Break(all));
         }
         let body = self.body(tokens, loops)?;
@@ -76,7 +76,7 @@ impl<R: Inside> Statements<R> {
         requires near { loops ≤ self.now.1 + 1 }
         ensures { Reads (spec.braced (limited.body self.now.0 loops) tokens.old) result tokens.new }
     {
-        tokens.mark(Terminal::OpenBrace)?;
+        tokens.mark(Terminal::Of(Word::OpenBrace))?;
         let all = self.bodies(tokens, loops)?;
         whole(self.alloc(), tokens, StatementKind::Block(all))
     }
@@ -88,7 +88,7 @@ impl<R: Inside> Statements<R> {
         requires near { loops ≤ self.now.1 + 1 }
         ensures { Reads (spec.head_body (limited.body self.now.0 loops) tokens.old) result tokens.new }
     {
-        if tokens.sees(Terminal::OpenBrace) {
+        if tokens.sees(Terminal::Of(Word::OpenBrace)) {
             let line = tokens.line();
             let found = self.braced(tokens, loops)?;
             return Ok(stated(self.alloc(), line, found)?);
@@ -102,7 +102,7 @@ impl<R: Inside> Statements<R> {
         ensures { Reads (within spec.perform self.now tokens.old) result tokens.new }
     {
         let value = expression(self.alloc(), tokens)?;
-        let (value, _) = both(value, tokens.mark(Terminal::Semicolon))?;
+        let (value, _) = both(value, tokens.mark(Terminal::Of(Word::Semicolon)))?;
         whole(self.alloc(), tokens, StatementKind::Expression(value))
     }
 
@@ -111,8 +111,8 @@ impl<R: Inside> Statements<R> {
     fn echo(&self, tokens: &mut Tokens<'_>) -> Result<Ended, Refusal>
         ensures { Reads (within spec.echo self.now tokens.old) result tokens.new }
     {
-        tokens.mark(Terminal::Echo)?;
-        let values = some_expressions(self.alloc(), tokens, Terminal::Semicolon)?;
+        tokens.mark(Terminal::Of(Word::Echo))?;
+        let values = some_expressions(self.alloc(), tokens, Terminal::Of(Word::Semicolon))?;
         whole(self.alloc(), tokens, StatementKind::Echo(values))
     }
 
@@ -131,20 +131,20 @@ impl<R: Inside> Statements<R> {
         ensures { Reads (within spec.any_statement self.now tokens.old) result tokens.new }
     {
         match tokens.peek() {
-            Terminal::Echo => self.echo(tokens),
-            Terminal::OpenBrace => self.block(tokens),
-            Terminal::Semicolon => empty(self.alloc(), tokens),
-            Terminal::If => self.if_rule(tokens),
-            Terminal::While => self.while_rule(tokens),
-            Terminal::Do => self.do_while(tokens),
-            Terminal::For => self.for_rule(tokens),
-            Terminal::Foreach => self.foreach(tokens),
-            Terminal::Break => self.break_rule(tokens),
-            Terminal::Continue => self.continue_rule(tokens),
-            Terminal::Return => self.return_rule(tokens),
-            Terminal::Global => global_rule(self.alloc(), tokens),
-            Terminal::Unset => self.unset(tokens),
-            Terminal::Exit | Terminal::Die => self.exit(tokens),
+            Terminal::Of(Word::Echo) => self.echo(tokens),
+            Terminal::Of(Word::OpenBrace) => self.block(tokens),
+            Terminal::Of(Word::Semicolon) => empty(self.alloc(), tokens),
+            Terminal::Of(Word::If) => self.if_rule(tokens),
+            Terminal::Of(Word::While) => self.while_rule(tokens),
+            Terminal::Of(Word::Do) => self.do_while(tokens),
+            Terminal::Of(Word::For) => self.for_rule(tokens),
+            Terminal::Of(Word::Foreach) => self.foreach(tokens),
+            Terminal::Of(Word::Break) => self.break_rule(tokens),
+            Terminal::Of(Word::Continue) => self.continue_rule(tokens),
+            Terminal::Of(Word::Return) => self.return_rule(tokens),
+            Terminal::Of(Word::Global) => global_rule(self.alloc(), tokens),
+            Terminal::Of(Word::Unset) => self.unset(tokens),
+            Terminal::Of(Word::Exit) | Terminal::Of(Word::Die) => self.exit(tokens),
             _ => self.perform(tokens),
         }
     }

@@ -3,8 +3,9 @@ use Rattle.std.specs.declared.ops.ControlFlow.{ControlFlow}
 use Rattle.std.specs.declared.ops.ControlFlow.TheVariants.{Continue, Break}
 use Rattle.std.proofs.Common.{◌≡◌, inl, inr, ℕ, Bool, true, false, ◌||◌, List, [], ◌∷◌, ◌++◌, Some, None, sym, refl, ap, ◌∙◌, subst, cond}
 use Rattle.dp_lexer.specs.declared.token.Token.{Token}
+use Rattle.dp_token_rules.specs.declared.terminal.Terminal.TheVariants.{Of}
+use Rattle.dp_lexer.specs.declared.token.Word.TheVariants as word
 use Rattle.dp_token_rules.specs.declared.terminal.Terminal.{Terminal}
-use Rattle.dp_token_rules.specs.declared.terminal.Terminal.TheVariants as terminal
 use Rattle.dp_token_rules.specs.Terminals.{terminal_of, same_terminal, is, head}
 use Rattle.dp_token_rules.specs.inner.Input.{Reader, and_then, made, mark, closed, ◌>>◌}
 use Rattle.dp_token_rules.specs.Rules.{Rule, Joined, Made, Mark, Perhaps}
@@ -39,11 +40,11 @@ pub record AreItems {L A : Type 0} (Above : L → L → Type 0) (item : List A �
     (item_stop : Stop A) (test : Terminal → Bool) (level : L) (read : List A → Reader A) : Type 0 where
   -- each item begins with such a token, which neither separates nor ends items
   pub starts : (all : List A) → StartsIn (item all) test
-  pub not_comma : test terminal.Comma ≡ false
+  pub not_comma : test (Of word.Comma) ≡ false
   pub not_close : test close ≡ false
-  pub close_apart : same_terminal close terminal.Comma ≡ false
+  pub close_apart : same_terminal close (Of word.Comma) ≡ false
   -- each item may end before what separates and before what ends items
-  pub stops_comma : (a : A) → item_stop a terminal.Comma ≡ true
+  pub stops_comma : (a : A) → item_stop a (Of word.Comma) ≡ true
   pub stops_close : (a : A) → item_stop a close ≡ true
   -- a token that ends items
   pub closing : Token
@@ -100,10 +101,10 @@ last_is end all text v h =
     (k.0, k.1, g.2 ∙ ap Break k.2)
 
 abbrev Trailed : Terminal → Rule ℕ
-Trailed close = Joined (Perhaps (Mark terminal.Comma)) (λ _. Mark close)
+Trailed close = Joined (Perhaps (Mark (Of word.Comma))) (λ _. Mark close)
 
 trailed : (close : Terminal) (front back text : List Token) (c n : ℕ) → text ≡ front ++ back
-    → Mark terminal.Comma front c → Mark close back n → Trailed close text n
+    → Mark (Of word.Comma) front c → Mark close back n → Trailed close text n
 trailed close front back text c n split comma end =
     record {
       front = front;
@@ -111,7 +112,7 @@ trailed close front back text c n split comma end =
       value = Some c;
       split = split;
       one = inl
-          (give (Mark terminal.Comma) Some front c comma);
+          (give (Mark (Of word.Comma)) Some front c comma);
       other = end;
     }
 
@@ -169,7 +170,7 @@ module _ {L A : Type 0} (Above : L → L → Type 0) (same_level : (l : L) → A
   more all a = all ++ a ∷ []
 
   abbrev between : List A → Terminal → Bool
-  between all s = is terminal.Comma s || is close s
+  between all s = is (Of word.Comma) s || is close s
 
   abbrev NextAt : List A → Rules L (ControlFlow (List A) (List A))
   NextAt all = MadeAt (MadeAt (item all) (more all)) Continue
@@ -177,11 +178,11 @@ module _ {L A : Type 0} (Above : L → L → Type 0) (same_level : (l : L) → A
   abbrev LastAt : List A → Rules L (ControlFlow (List A) (List A))
   LastAt all = MadeAt (MadeAt (MarkAt close) (λ _. all)) Break
 
-  item_may_end : (a : A) (s : Terminal) → (is terminal.Comma s || is close s) ≡ true → item_stop a s ≡ true
-  item_may_end a s = go (is terminal.Comma s) refl
+  item_may_end : (a : A) (s : Terminal) → (is (Of word.Comma) s || is close s) ≡ true → item_stop a s ≡ true
+  item_may_end a s = go (is (Of word.Comma) s) refl
     where
-      go : (b : Bool) → is terminal.Comma s ≡ b → (b || is close s) ≡ true → item_stop a s ≡ true
-      go true here e = mark_passes (item_stop a) terminal.Comma (items.stops_comma a) s here
+      go : (b : Bool) → is (Of word.Comma) s ≡ b → (b || is close s) ≡ true → item_stop a s ≡ true
+      go true here e = mark_passes (item_stop a) (Of word.Comma) (items.stops_comma a) s here
       go false here e = mark_passes (item_stop a) close (items.stops_close a) s e
 
   some_close : (m : L) → (ts : List Token) × (n : ℕ) × Mark close ts n
@@ -200,15 +201,15 @@ module _ {L A : Type 0} (Above : L → L → Type 0) (same_level : (l : L) → A
       made_starts (MadeAt (item all) (more all)) Continue test
       (made_starts (item all) (more all) test (items.starts all))
 
-  item_starts : (all : List A) → StartsIn (NextItemAt item all) (is terminal.Comma)
+  item_starts : (all : List A) → StartsIn (NextItemAt item all) (is (Of word.Comma))
   item_starts all =
-      joined_starts (MarkAt terminal.Comma) (λ _. MadeAt (item all) (more all)) (is terminal.Comma)
-      (mark_starts terminal.Comma)
+      joined_starts (MarkAt (Of word.Comma)) (λ _. MadeAt (item all) (more all)) (is (Of word.Comma))
+      (mark_starts (Of word.Comma))
 
   item_between : (all : List A) → StartsIn (NextItemAt item all) (between all)
   item_between all =
-      starts_in_more (NextItemAt item all) (is terminal.Comma) (between all)
-      (λ s. or_left (is terminal.Comma s) (is close s)) (item_starts all)
+      starts_in_more (NextItemAt item all) (is (Of word.Comma)) (between all)
+      (λ s. or_left (is (Of word.Comma) s) (is close s)) (item_starts all)
 
   next_answers : (all : List A) (ts : List Token)
       → Answers Above (NextAt all) (step_stop between Anything) level ts (next_item read close all ts)
@@ -228,15 +229,15 @@ module _ {L A : Type 0} (Above : L → L → Type 0) (same_level : (l : L) → A
 
   -- ---- the list, by its steps and its end
 
-  module _ (end : Rules L ℕ) (end_starts : StartsIn end (λ s. is terminal.Comma s || is close s))
+  module _ (end : Rules L ℕ) (end_starts : StartsIn end (λ s. is (Of word.Comma) s || is close s))
       (some_end : (m : L) → (ts : List Token) × (n : ℕ) × end m ts n) where
     abbrev EndAt : List A → Rules L (List A)
     EndAt all = MadeAt end (λ _. all)
 
     end_follows : Follows between EndAt Anything
     end_follows =
-        starts_follow between EndAt Anything (λ s. is terminal.Comma s || is close s) (λ all s e. e)
-        (λ all. made_starts end (λ _. all) (λ s. is terminal.Comma s || is close s) end_starts)
+        starts_follow between EndAt Anything (λ s. is (Of word.Comma) s || is close s) (λ all s e. e)
+        (λ all. made_starts end (λ _. all) (λ s. is (Of word.Comma) s || is close s) end_starts)
 
     end_goes_on : GoesOn Above level EndAt
     end_goes_on m above all = let e = some_end m in (e.0, all, give (end m) (λ _. all) e.0 e.1 e.2)
@@ -275,21 +276,21 @@ module _ {L A : Type 0} (Above : L → L → Type 0) (same_level : (l : L) → A
   up_to_starts : (end : Rules L ℕ) → StartsIn (ItemsUpToAt item end) test
   up_to_starts end = items_start item end test (items.starts [])
 
-  close_starts : StartsIn {L = L} (MarkAt close) (λ s. is terminal.Comma s || is close s)
+  close_starts : StartsIn {L = L} (MarkAt close) (λ s. is (Of word.Comma) s || is close s)
   close_starts =
-      starts_in_more (MarkAt close) (is close) (λ s. is terminal.Comma s || is close s)
-      (λ s. or_right (is terminal.Comma s) (is close s)) (mark_starts close)
+      starts_in_more (MarkAt close) (is close) (λ s. is (Of word.Comma) s || is close s)
+      (λ s. or_right (is (Of word.Comma) s) (is close s)) (mark_starts close)
 
   -- what ends items does not separate them
-  close_no_comma : (s : Terminal) → is close s ≡ true → is terminal.Comma s ≡ false
-  close_no_comma = mark_fails (is terminal.Comma) close items.close_apart
+  close_no_comma : (s : Terminal) → is close s ≡ true → is (Of word.Comma) s ≡ false
+  close_no_comma = mark_fails (is (Of word.Comma)) close items.close_apart
 
   item_no_close : (s : Terminal) → test s ≡ true → is close s ≡ false
   item_no_close = mark_apart test close items.not_close
 
-  last_apart : (all : List A) → Apart (LastAt all) (step_stop between Anything) (is terminal.Comma)
+  last_apart : (all : List A) → Apart (LastAt all) (step_stop between Anything) (is (Of word.Comma))
   last_apart all =
-      starts_apart (LastAt all) (step_stop between Anything) (is terminal.Comma) (is close) close_no_comma
+      starts_apart (LastAt all) (step_stop between Anything) (is (Of word.Comma)) (is close) close_no_comma
       (last_starts all)
 
   -- ---- without a comma behind the last item
@@ -298,19 +299,19 @@ module _ {L A : Type 0} (Above : L → L → Type 0) (same_level : (l : L) → A
   PlainStepAt all = StepAt (NextItemAt item) (λ x. MadeAt (MarkAt close) (λ _. x)) all
 
   abbrev PlainFactoredAt : List A → Rules L (ControlFlow (List A) (List A))
-  PlainFactoredAt all = EitherAt (JoinedAt (MarkAt terminal.Comma) (λ _. NextAt all)) (LastAt all)
+  PlainFactoredAt all = EitherAt (JoinedAt (MarkAt (Of word.Comma)) (λ _. NextAt all)) (LastAt all)
 
   to_plain : (all : List A) (m : L) (text : List Token) (v : ControlFlow (List A) (List A))
       → PlainFactoredAt all m text v → PlainStepAt all m text v
   to_plain all m text v (inl j) =
-      inr (made_behind (Mark terminal.Comma) (λ _. Made (item all m) (more all)) Continue text v j)
+      inr (made_behind (Mark (Of word.Comma)) (λ _. Made (item all m) (more all)) Continue text v j)
   to_plain all m text v (inr h) = inl h
 
   from_plain : (all : List A) (m : L) (text : List Token) (v : ControlFlow (List A) (List A)) → PlainStepAt all m text v
       → PlainFactoredAt all m text v
   from_plain all m text v (inl h) = inr h
   from_plain all m text v (inr h) =
-      inl (behind_made (Mark terminal.Comma) (λ _. Made (item all m) (more all)) Continue text v h)
+      inl (behind_made (Mark (Of word.Comma)) (λ _. Made (item all m) (more all)) Continue text v h)
 
   module _ (goes_on : GoesOn Above level item) where
     next_goes_on : (all : List A) (m : L) → Above level m
@@ -328,15 +329,15 @@ module _ {L A : Type 0} (Above : L → L → Type 0) (same_level : (l : L) → A
     plain_steps all ts =
         equal_answers Above same_level (PlainFactoredAt all) (PlainStepAt all) (step_stop between Anything) level ts
         (to_plain all) (from_plain all) (plain_step read close all ts)
-        (either_answers Above same_level (JoinedAt (MarkAt terminal.Comma) (λ _. NextAt all)) (LastAt all)
-        (is terminal.Comma) (step_stop between Anything) level ts
-        (joined_starts (MarkAt terminal.Comma) (λ _. NextAt all) (is terminal.Comma) (mark_starts terminal.Comma))
+        (either_answers Above same_level (JoinedAt (MarkAt (Of word.Comma)) (λ _. NextAt all)) (LastAt all)
+        (is (Of word.Comma)) (step_stop between Anything) level ts
+        (joined_starts (MarkAt (Of word.Comma)) (λ _. NextAt all) (is (Of word.Comma)) (mark_starts (Of word.Comma)))
         (last_apart all)
-        ((mark terminal.Comma >> next_item read close all) ts) (last_item read close all ts)
-        (λ _. joined_answers Above same_level (MarkAt terminal.Comma) (λ _. NextAt all) Anything
+        ((mark (Of word.Comma) >> next_item read close all) ts) (last_item read close all ts)
+        (λ _. joined_answers Above same_level (MarkAt (Of word.Comma)) (λ _. NextAt all) Anything
         (step_stop between Anything) level ts (anything_follows (λ _. NextAt all) (step_stop between Anything))
-        (mark terminal.Comma ts) (λ _. next_item read close all) (λ m above _. next_goes_on all m above)
-        (mark_answers Above same_level terminal.Comma Anything level ts) (λ _ r _. next_answers all r))
+        (mark (Of word.Comma) ts) (λ _. next_item read close all) (λ m above _. next_goes_on all m above)
+        (mark_answers Above same_level (Of word.Comma) Anything level ts) (λ _ r _. next_answers all r))
         (λ _. last_answers all ts))
 
     pub plain_items_answers : (ts : List Token)
@@ -356,7 +357,7 @@ module _ {L A : Type 0} (Above : L → L → Type 0) (same_level : (l : L) → A
   BehindAt all = EitherAt (LastAt all) (NextAt all)
 
   abbrev FactoredAt : List A → Rules L (ControlFlow (List A) (List A))
-  FactoredAt all = EitherAt (JoinedAt (MarkAt terminal.Comma) (λ _. BehindAt all)) (LastAt all)
+  FactoredAt all = EitherAt (JoinedAt (MarkAt (Of word.Comma)) (λ _. BehindAt all)) (LastAt all)
 
   to_step : (all : List A) (m : L) (text : List Token) (v : ControlFlow (List A) (List A)) → FactoredAt all m text v
       → CommaStepAt all m text v
@@ -368,7 +369,7 @@ module _ {L A : Type 0} (Above : L → L → Type 0) (same_level : (l : L) → A
           subst (λ x. CommaStepAt all m text x) (sym l.2) (inl
           (last_of (Trailed close) all text l.0 (trailed close j.front j.back text j.value l.0 j.split j.one l.1)))
       go (inr h) =
-          inr (made_behind (Mark terminal.Comma) (λ _. Made (item all m) (more all)) Continue text v
+          inr (made_behind (Mark (Of word.Comma)) (λ _. Made (item all m) (more all)) Continue text v
           (record { front = j.front; back = j.back; value = j.value; split = j.split; one = j.one; other = h }))
   to_step all m text v (inr h) =
       let l = last_is (Mark close) all text v h in
@@ -381,10 +382,10 @@ module _ {L A : Type 0} (Above : L → L → Type 0) (same_level : (l : L) → A
       let l = last_is (Trailed close) all text v h in
       subst (λ x. FactoredAt all m text x) (sym l.2) (go l.0 l.1 l.1.one)
     where
-      go : (n : ℕ) → (j : Trailed close text n) → Perhaps (Mark terminal.Comma) j.front j.value
+      go : (n : ℕ) → (j : Trailed close text n) → Perhaps (Mark (Of word.Comma)) j.front j.value
           → FactoredAt all m text (Break all)
       go n j (inl p) =
-          let c = given (Mark terminal.Comma) Some j.front j.value p in
+          let c = given (Mark (Of word.Comma)) Some j.front j.value p in
           inl (record {
             front = j.front;
             back = j.back;
@@ -398,7 +399,7 @@ module _ {L A : Type 0} (Above : L → L → Type 0) (same_level : (l : L) → A
           let same : text ≡ j.back = j.split ∙ ap (λ x. x ++ j.back) g.empty in
           inr (subst (λ x. Last (Mark close) all x (Break all)) (sym same) (last_of (Mark close) all j.back n j.other))
   from_step all m text v (inr h) =
-      let j = behind_made (Mark terminal.Comma) (λ _. Made (item all m) (more all)) Continue text v h in
+      let j = behind_made (Mark (Of word.Comma)) (λ _. Made (item all m) (more all)) Continue text v h in
       inl (record {
         front = j.front;
         back = j.back;
@@ -421,32 +422,32 @@ module _ {L A : Type 0} (Above : L → L → Type 0) (same_level : (l : L) → A
   comma_steps all ts =
       equal_answers Above same_level (FactoredAt all) (CommaStepAt all) (step_stop between Anything) level ts
       (to_step all) (from_step all) (comma_step read close all ts)
-      (either_answers Above same_level (JoinedAt (MarkAt terminal.Comma) (λ _. BehindAt all)) (LastAt all)
-      (is terminal.Comma) (step_stop between Anything) level ts
-      (joined_starts (MarkAt terminal.Comma) (λ _. BehindAt all) (is terminal.Comma) (mark_starts terminal.Comma))
+      (either_answers Above same_level (JoinedAt (MarkAt (Of word.Comma)) (λ _. BehindAt all)) (LastAt all)
+      (is (Of word.Comma)) (step_stop between Anything) level ts
+      (joined_starts (MarkAt (Of word.Comma)) (λ _. BehindAt all) (is (Of word.Comma)) (mark_starts (Of word.Comma)))
       (last_apart all)
-      ((mark terminal.Comma >> behind_comma read close all) ts) (last_item read close all ts)
-      (λ _. joined_answers Above same_level (MarkAt terminal.Comma) (λ _. BehindAt all) Anything
+      ((mark (Of word.Comma) >> behind_comma read close all) ts) (last_item read close all ts)
+      (λ _. joined_answers Above same_level (MarkAt (Of word.Comma)) (λ _. BehindAt all) Anything
       (step_stop between Anything) level ts (anything_follows (λ _. BehindAt all) (step_stop between Anything))
-      (mark terminal.Comma ts) (λ _. behind_comma read close all)
+      (mark (Of word.Comma) ts) (λ _. behind_comma read close all)
       (λ m above _. let l = some_last m all in (l.0, l.1, inl l.2))
-      (mark_answers Above same_level terminal.Comma Anything level ts) (λ _ r _. behind_answers all r))
+      (mark_answers Above same_level (Of word.Comma) Anything level ts) (λ _ r _. behind_answers all r))
       (λ _. last_answers all ts))
 
-  trailed_starts : StartsIn {L = L} (λ _. Trailed close) (λ s. is terminal.Comma s || is close s)
+  trailed_starts : StartsIn {L = L} (λ _. Trailed close) (λ s. is (Of word.Comma) s || is close s)
   trailed_starts m text n j = go j.one
     where
-      go : Perhaps (Mark terminal.Comma) j.front j.value
+      go : Perhaps (Mark (Of word.Comma)) j.front j.value
           → (x : Token) × (rest : List Token) × (text ≡ x ∷ rest)
-          × ((is terminal.Comma (terminal_of x.kind) || is close (terminal_of x.kind)) ≡ true)
+          × ((is (Of word.Comma) (terminal_of x.kind) || is close (terminal_of x.kind)) ≡ true)
       go (inl p) =
-          let c = made_starts (MarkAt {L = L} terminal.Comma) Some (is terminal.Comma)
-          (mark_starts terminal.Comma) m j.front j.value p in (
+          let c = made_starts (MarkAt {L = L} (Of word.Comma)) Some (is (Of word.Comma))
+          (mark_starts (Of word.Comma)) m j.front j.value p in (
             c.0,
             c.1 ++ j.back,
             j.split
                 ∙ ap (λ l. l ++ j.back) c.2,
-            or_left (is terminal.Comma (terminal_of c.0.kind))
+            or_left (is (Of word.Comma) (terminal_of c.0.kind))
                 (is close (terminal_of c.0.kind)) c.3,
           )
       go (inr g) =

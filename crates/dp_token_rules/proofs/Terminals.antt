@@ -1,9 +1,17 @@
 -- Sorts of tokens told apart, and a token of each sort.
+use denote.RattleType.{RattleType}
+use denote.Enum.Enum.{Sum, tag}
+use denote.Enum.Declared.{tag_of, variants}
 use Rattle.std.specs.List.{list_all}
 use Rattle.std.specs.Str.{str_eq_ignore_ascii_case}
-use Rattle.std.proofs.Common.{◌≡◌, inl, inr, ℕ, zero, suc, Bool, true, false, not, ◌||◌, List, [], ◌∷◌, codes, get_or, Some, None, sym, refl, ap, ◌∙◌, cond, eqb-true, eq-eqb}
+use Rattle.std.proofs.Common.{◌≡◌, inl, inr, ℕ, zero, suc, ◌+◌, ◌<◌, Bool, true, false, not, ◌||◌, List, [], ◌∷◌, ◌++◌, map, length, codes, get_or, Some, None, sym, refl, ap, ◌∙◌, cond, eqb-true, eq-eqb, arith}
+use Rattle.std.proofs.lemmas.List.{get_or-map, get_or-append-add}
+use Rattle.std.proofs.lemmas.List.FromFn.{get_or-range_with_len}
 use Rattle.dp_lexer.specs.declared.token.Token.{Token}
 use Rattle.dp_lexer.specs.declared.token.TokenKind.{TokenKind}
+use Rattle.dp_lexer.specs.contracts.token.Word.{the_type}
+use Rattle.dp_lexer.specs.declared.token.Word.{Word}
+use Rattle.dp_lexer.specs.declared.token.Word.TheVariants as word
 use Rattle.dp_token_rules.specs.declared.terminal.Terminal.{Terminal}
 use Rattle.dp_token_rules.specs.declared.terminal.Terminal.TheVariants as terminal
 use Rattle.dp_token_rules.specs.Terminals.{terminal_of, reserved_terminal, number_of, same_terminal, is, head}
@@ -38,24 +46,59 @@ within_or s t u one other x is = elim (or_cases (s x) (t x) is) [ inl h ↦ one 
 
 -- ---- sorts, by their numbers
 
+abbrev all_words : List Word
+all_words =
+    word.Array ∷ word.As ∷ word.Break ∷ word.Continue ∷ word.Die ∷ word.Do ∷ word.Echo ∷ word.Else ∷ word.ElseIf
+    ∷ word.Exit ∷ word.False ∷ word.For ∷ word.Foreach ∷ word.Function ∷ word.Global ∷ word.If ∷ word.Include
+    ∷ word.Isset ∷ word.Null ∷ word.Require ∷ word.Return ∷ word.True ∷ word.Unset ∷ word.While ∷ word.Identical
+    ∷ word.NotIdentical ∷ word.Spaceship ∷ word.CoalesceAssign ∷ word.Equal ∷ word.NotEqual ∷ word.LessOrEqual
+    ∷ word.GreaterOrEqual ∷ word.BothOf ∷ word.EitherOf ∷ word.Coalesce ∷ word.Increment ∷ word.Decrement
+    ∷ word.AddAssign ∷ word.SubtractAssign ∷ word.MultiplyAssign ∷ word.ConcatAssign ∷ word.RemainderAssign
+    ∷ word.Arrow ∷ word.Assign ∷ word.Less ∷ word.Greater ∷ word.Plus ∷ word.Minus ∷ word.Star ∷ word.Percent
+    ∷ word.Dot ∷ word.Bang ∷ word.Question ∷ word.Colon ∷ word.Comma ∷ word.Semicolon ∷ word.OpenParenthesis
+    ∷ word.CloseParenthesis ∷ word.OpenBracket ∷ word.CloseBracket ∷ word.OpenBrace ∷ word.CloseBrace ∷ []
+
+abbrev plain_terminals : List Terminal
+plain_terminals =
+    terminal.End ∷ terminal.Variable ∷ terminal.Superglobal ∷ terminal.Name ∷ terminal.Reserved ∷ terminal.Const
+    ∷ terminal.Number ∷ terminal.Text ∷ []
+
 abbrev pub all_terminals : List Terminal
-all_terminals =
-    terminal.End ∷ terminal.Variable ∷ terminal.Superglobal ∷ terminal.Name ∷ terminal.Reserved ∷ terminal.Number
-    ∷ terminal.Text ∷ terminal.Array ∷ terminal.As ∷ terminal.Break ∷ terminal.Const ∷ terminal.Continue
-    ∷ terminal.Die ∷ terminal.Do ∷ terminal.Echo ∷ terminal.Else ∷ terminal.ElseIf ∷ terminal.Exit ∷ terminal.False
-    ∷ terminal.For ∷ terminal.Foreach ∷ terminal.Function ∷ terminal.Global ∷ terminal.If ∷ terminal.Include
-    ∷ terminal.Isset ∷ terminal.Null ∷ terminal.Require ∷ terminal.Return ∷ terminal.True ∷ terminal.Unset
-    ∷ terminal.While ∷ terminal.Identical ∷ terminal.NotIdentical ∷ terminal.Spaceship ∷ terminal.CoalesceAssign
-    ∷ terminal.Equal ∷ terminal.NotEqual ∷ terminal.LessOrEqual ∷ terminal.GreaterOrEqual ∷ terminal.BothOf
-    ∷ terminal.EitherOf ∷ terminal.Coalesce ∷ terminal.Increment ∷ terminal.Decrement ∷ terminal.AddAssign
-    ∷ terminal.SubtractAssign ∷ terminal.MultiplyAssign ∷ terminal.ConcatAssign ∷ terminal.RemainderAssign
-    ∷ terminal.Arrow ∷ terminal.Assign ∷ terminal.Less ∷ terminal.Greater ∷ terminal.Plus ∷ terminal.Minus
-    ∷ terminal.Star ∷ terminal.Percent ∷ terminal.Dot ∷ terminal.Bang ∷ terminal.Question ∷ terminal.Colon
-    ∷ terminal.Comma ∷ terminal.Semicolon ∷ terminal.OpenParenthesis ∷ terminal.CloseParenthesis
-    ∷ terminal.OpenBracket ∷ terminal.CloseBracket ∷ terminal.OpenBrace ∷ terminal.CloseBrace ∷ []
+all_terminals = plain_terminals ++ map terminal.Of all_words
+
+-- without fields, one variant has one value
+abbrev AreBare : List (List RattleType) → Type 0
+AreBare [] = Unit {0}
+AreBare ([] ∷ rows) = AreBare rows
+AreBare ((_ ∷ _) ∷ rows) = ⊥
+
+tag_one : (rows : List (List RattleType)) → AreBare rows → (a b : Sum rows) → tag rows a ≡ tag rows b → a ≡ b
+tag_one [] bare a b e = absurd a
+tag_one ([] ∷ rows) bare (inl x) (inl y) e = refl
+tag_one ([] ∷ rows) bare (inl x) (inr y) e = absurd (omega arith)
+tag_one ([] ∷ rows) bare (inr x) (inl y) e = absurd (omega arith)
+tag_one ([] ∷ rows) bare (inr x) (inr y) e = ap inr (tag_one rows bare x y (omega arith))
+tag_one ((_ ∷ _) ∷ rows) bare a b e = absurd bare
+
+tag_within : (rows : List (List RattleType)) (a : Sum rows) → tag rows a < length rows
+tag_within [] a = absurd a
+tag_within (row ∷ rows) (inl x) = omega arith
+tag_within (row ∷ rows) (inr y) = let h = tag_within rows y in omega (arith, h)
+
+same_word : (v w : Word) → tag_of the_type v ≡ tag_of the_type w → v ≡ w
+same_word v w e = the_type.to_one v w (tag_one (variants the_type) tt (the_type.to v) (the_type.to w) e)
 
 abbrev terminal_at : ℕ → Terminal
 terminal_at n = get_or all_terminals n terminal.End
+
+place_within : (w : Word) → tag_of the_type w < 62
+place_within w = tag_within (variants the_type) (the_type.to w)
+
+word_at : (w : Word) → get_or all_words (tag_of the_type w) word.Array ≡ w
+word_at w =
+    let from_zero : 0 + tag_of the_type w ≡ tag_of the_type w = omega arith in
+    same_word _ w (sym (get_or-map (tag_of the_type) all_words (tag_of the_type w) word.Array 0 (place_within w))
+    ∙ get_or-range_with_len 0 62 (tag_of the_type w) 0 (place_within w) ∙ from_zero)
 
 pub at_number : (s : Terminal) → terminal_at (number_of s) ≡ s
 at_number terminal.End = refl
@@ -63,71 +106,13 @@ at_number terminal.Variable = refl
 at_number terminal.Superglobal = refl
 at_number terminal.Name = refl
 at_number terminal.Reserved = refl
+at_number terminal.Const = refl
 at_number terminal.Number = refl
 at_number terminal.Text = refl
-at_number terminal.Array = refl
-at_number terminal.As = refl
-at_number terminal.Break = refl
-at_number terminal.Const = refl
-at_number terminal.Continue = refl
-at_number terminal.Die = refl
-at_number terminal.Do = refl
-at_number terminal.Echo = refl
-at_number terminal.Else = refl
-at_number terminal.ElseIf = refl
-at_number terminal.Exit = refl
-at_number terminal.False = refl
-at_number terminal.For = refl
-at_number terminal.Foreach = refl
-at_number terminal.Function = refl
-at_number terminal.Global = refl
-at_number terminal.If = refl
-at_number terminal.Include = refl
-at_number terminal.Isset = refl
-at_number terminal.Null = refl
-at_number terminal.Require = refl
-at_number terminal.Return = refl
-at_number terminal.True = refl
-at_number terminal.Unset = refl
-at_number terminal.While = refl
-at_number terminal.Identical = refl
-at_number terminal.NotIdentical = refl
-at_number terminal.Spaceship = refl
-at_number terminal.CoalesceAssign = refl
-at_number terminal.Equal = refl
-at_number terminal.NotEqual = refl
-at_number terminal.LessOrEqual = refl
-at_number terminal.GreaterOrEqual = refl
-at_number terminal.BothOf = refl
-at_number terminal.EitherOf = refl
-at_number terminal.Coalesce = refl
-at_number terminal.Increment = refl
-at_number terminal.Decrement = refl
-at_number terminal.AddAssign = refl
-at_number terminal.SubtractAssign = refl
-at_number terminal.MultiplyAssign = refl
-at_number terminal.ConcatAssign = refl
-at_number terminal.RemainderAssign = refl
-at_number terminal.Arrow = refl
-at_number terminal.Assign = refl
-at_number terminal.Less = refl
-at_number terminal.Greater = refl
-at_number terminal.Plus = refl
-at_number terminal.Minus = refl
-at_number terminal.Star = refl
-at_number terminal.Percent = refl
-at_number terminal.Dot = refl
-at_number terminal.Bang = refl
-at_number terminal.Question = refl
-at_number terminal.Colon = refl
-at_number terminal.Comma = refl
-at_number terminal.Semicolon = refl
-at_number terminal.OpenParenthesis = refl
-at_number terminal.CloseParenthesis = refl
-at_number terminal.OpenBracket = refl
-at_number terminal.CloseBracket = refl
-at_number terminal.OpenBrace = refl
-at_number terminal.CloseBrace = refl
+at_number (terminal.Of w) =
+    get_or-append-add plain_terminals (map terminal.Of all_words) (tag_of the_type w) terminal.End
+    ∙ get_or-map terminal.Of all_words (tag_of the_type w) word.Array terminal.End (place_within w)
+    ∙ ap terminal.Of (word_at w)
 
 pub same_number : (s c : Terminal) → same_terminal s c ≡ true → number_of s ≡ number_of c
 same_number s c e = eqb-true (number_of s) (number_of c) e

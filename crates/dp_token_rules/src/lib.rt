@@ -9,5 +9,6 @@ mod terminal;
 
 pub use cursor::{Tokens, enter};
 pub use dp_grammar::Refusal;
+pub use dp_lexer::Word;
 pub use lists::{Piece, any_items, any_plain_items, many, none, plain_items, some_items, with};
 pub use terminal::{Terminal, is_superglobal};

@@ -8,6 +8,7 @@ ghost use Rattle.dp_token_rules.specs.inner.ListReaders as spec;
 use crate::cursor::Tokens;
 use crate::terminal::Terminal;
 use dp_grammar::Refusal;
+use dp_lexer::Word;
 use dp_value::{Items, Memory};
 use std::alloc::Global;
 use std::ops::ControlFlow;
@@ -69,8 +70,8 @@ fn comma_step<T: Drop, P: Piece<T>>(
     requires { P.ready item.now }
     ensures { Reads (spec.comma_step (λ _. P.reads item.now) close all tokens.old) result tokens.new }
 {
-    if tokens.sees(Terminal::Comma) {
-        tokens.mark(Terminal::Comma)?;
+    if tokens.sees(Terminal::Of(Word::Comma)) {
+        tokens.mark(Terminal::Of(Word::Comma))?;
         return behind_comma(tokens, close, item, all);
     }
     tokens.mark(close)?;
@@ -141,8 +142,8 @@ fn plain_step<T: Drop, P: Piece<T>>(
     requires { P.ready item.now }
     ensures { Reads (spec.plain_step (λ _. P.reads item.now) close all tokens.old) result tokens.new }
 {
-    if tokens.sees(Terminal::Comma) {
-        tokens.mark(Terminal::Comma)?;
+    if tokens.sees(Terminal::Of(Word::Comma)) {
+        tokens.mark(Terminal::Of(Word::Comma))?;
         let value = item.read(tokens)?;
         return Ok(ControlFlow::Continue(with(all, value)?));
     }

@@ -3,7 +3,7 @@
 ghost use Rattle.std.specs.Prelude.{◌≡◌};
 ghost use Rattle.dp_token_rules.specs.Terminals as spec;
 
-use dp_lexer::{TokenKind, is_reserved};
+use dp_lexer::{TokenKind, Word, is_reserved};
 
 /// What sort of token comes next.
 #[derive(Clone, Copy, Debug, PartialEq, Eq)]
@@ -18,71 +18,12 @@ pub enum Terminal {
     Name,
     /// A reserved word that the grammar does not use.
     Reserved,
+    /// `const`, which is a name to the lexer.
+    Const,
     Number,
     Text,
-    Array,
-    As,
-    Break,
-    Const,
-    Continue,
-    Die,
-    Do,
-    Echo,
-    Else,
-    ElseIf,
-    Exit,
-    False,
-    For,
-    Foreach,
-    Function,
-    Global,
-    If,
-    Include,
-    Isset,
-    Null,
-    Require,
-    Return,
-    True,
-    Unset,
-    While,
-    Identical,
-    NotIdentical,
-    Spaceship,
-    CoalesceAssign,
-    Equal,
-    NotEqual,
-    LessOrEqual,
-    GreaterOrEqual,
-    BothOf,
-    EitherOf,
-    Coalesce,
-    Increment,
-    Decrement,
-    AddAssign,
-    SubtractAssign,
-    MultiplyAssign,
-    ConcatAssign,
-    RemainderAssign,
-    Arrow,
-    Assign,
-    Less,
-    Greater,
-    Plus,
-    Minus,
-    Star,
-    Percent,
-    Dot,
-    Bang,
-    Question,
-    Colon,
-    Comma,
-    Semicolon,
-    OpenParenthesis,
-    CloseParenthesis,
-    OpenBracket,
-    CloseBracket,
-    OpenBrace,
-    CloseBrace,
+    /// A token that carries nothing.
+    Of(Word),
 }
 
 /// Whether a program may not name this variable, in exactly this case of letters. Takes no memory.
@@ -114,68 +55,24 @@ pub(crate) fn terminal_of(kind: &TokenKind) -> Terminal
         TokenKind::Name(_) => Terminal::Name,
         TokenKind::Number(_) => Terminal::Number,
         TokenKind::Text(_) => Terminal::Text,
-        TokenKind::Array => Terminal::Array,
-        TokenKind::As => Terminal::As,
-        TokenKind::Break => Terminal::Break,
-        TokenKind::Continue => Terminal::Continue,
-        TokenKind::Die => Terminal::Die,
-        TokenKind::Do => Terminal::Do,
-        TokenKind::Echo => Terminal::Echo,
-        TokenKind::Else => Terminal::Else,
-        TokenKind::ElseIf => Terminal::ElseIf,
-        TokenKind::Exit => Terminal::Exit,
-        TokenKind::False => Terminal::False,
-        TokenKind::For => Terminal::For,
-        TokenKind::Foreach => Terminal::Foreach,
-        TokenKind::Function => Terminal::Function,
-        TokenKind::Global => Terminal::Global,
-        TokenKind::If => Terminal::If,
-        TokenKind::Include => Terminal::Include,
-        TokenKind::Isset => Terminal::Isset,
-        TokenKind::Null => Terminal::Null,
-        TokenKind::Require => Terminal::Require,
-        TokenKind::Return => Terminal::Return,
-        TokenKind::True => Terminal::True,
-        TokenKind::Unset => Terminal::Unset,
-        TokenKind::While => Terminal::While,
-        TokenKind::Identical => Terminal::Identical,
-        TokenKind::NotIdentical => Terminal::NotIdentical,
-        TokenKind::Spaceship => Terminal::Spaceship,
-        TokenKind::CoalesceAssign => Terminal::CoalesceAssign,
-        TokenKind::Equal => Terminal::Equal,
-        TokenKind::NotEqual => Terminal::NotEqual,
-        TokenKind::LessOrEqual => Terminal::LessOrEqual,
-        TokenKind::GreaterOrEqual => Terminal::GreaterOrEqual,
-        TokenKind::BothOf => Terminal::BothOf,
-        TokenKind::EitherOf => Terminal::EitherOf,
-        TokenKind::Coalesce => Terminal::Coalesce,
-        TokenKind::Increment => Terminal::Increment,
-        TokenKind::Decrement => Terminal::Decrement,
-        TokenKind::AddAssign => Terminal::AddAssign,
-        TokenKind::SubtractAssign => Terminal::SubtractAssign,
-        TokenKind::MultiplyAssign => Terminal::MultiplyAssign,
-        TokenKind::ConcatAssign => Terminal::ConcatAssign,
-        TokenKind::RemainderAssign => Terminal::RemainderAssign,
-        TokenKind::Arrow => Terminal::Arrow,
-        TokenKind::Assign => Terminal::Assign,
-        TokenKind::Less => Terminal::Less,
-        TokenKind::Greater => Terminal::Greater,
-        TokenKind::Plus => Terminal::Plus,
-        TokenKind::Minus => Terminal::Minus,
-        TokenKind::Star => Terminal::Star,
-        TokenKind::Percent => Terminal::Percent,
-        TokenKind::Dot => Terminal::Dot,
-        TokenKind::Bang => Terminal::Bang,
-        TokenKind::Question => Terminal::Question,
-        TokenKind::Colon => Terminal::Colon,
-        TokenKind::Comma => Terminal::Comma,
-        TokenKind::Semicolon => Terminal::Semicolon,
-        TokenKind::OpenParenthesis => Terminal::OpenParenthesis,
-        TokenKind::CloseParenthesis => Terminal::CloseParenthesis,
-        TokenKind::OpenBracket => Terminal::OpenBracket,
-        TokenKind::CloseBracket => Terminal::CloseBracket,
-        TokenKind::OpenBrace => Terminal::OpenBrace,
-        TokenKind::CloseBrace => Terminal::CloseBrace,
+        TokenKind::Word(word) => Terminal::Of(*word),
+    }
+}
+
+/// Sorts by numbers, each by its own.
+fn number_of(terminal: Terminal) -> u8
+    ensures { result ≡ spec.number_of terminal }
+{
+    match terminal {
+        Terminal::End => 0,
+        Terminal::Variable => 1,
+        Terminal::Superglobal => 2,
+        Terminal::Name => 3,
+        Terminal::Reserved => 4,
+        Terminal::Const => 5,
+        Terminal::Number => 6,
+        Terminal::Text => 7,
+        Terminal::Of(word) => 8 + word as u8,
     }
 }
 
@@ -183,5 +80,5 @@ pub(crate) fn terminal_of(kind: &TokenKind) -> Terminal
 pub(crate) fn same_terminal(a: Terminal, b: Terminal) -> bool
     ensures { result ≡ spec.same_terminal a b }
 {
-    a as u8 == b as u8
+    number_of(a) == number_of(b)
 }

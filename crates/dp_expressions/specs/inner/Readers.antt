@@ -7,6 +7,8 @@ use Rattle.dp_expressions.specs.declared.operand.Operand.TheVariants as operand
 use Rattle.dp_expressions.specs.declared.operand.Part.{Part}
 use Rattle.dp_expressions.specs.declared.operand.Part.TheVariants as part
 use Rattle.dp_expressions.specs.declared.rank.Rank.{Rank}
+use Rattle.dp_token_rules.specs.declared.terminal.Terminal.TheVariants.{Of}
+use Rattle.dp_lexer.specs.declared.token.Word.TheVariants as word
 use Rattle.dp_token_rules.specs.declared.terminal.Terminal.{Terminal}
 use Rattle.dp_token_rules.specs.declared.terminal.Terminal.TheVariants as terminal
 use Rattle.dp_tree.specs.declared.tree.Expression.{Expression}
@@ -27,20 +29,20 @@ begins_expression terminal.Variable = true
 begins_expression terminal.Name = true
 begins_expression terminal.Number = true
 begins_expression terminal.Text = true
-begins_expression terminal.Null = true
-begins_expression terminal.True = true
-begins_expression terminal.False = true
-begins_expression terminal.Array = true
-begins_expression terminal.Isset = true
-begins_expression terminal.Include = true
-begins_expression terminal.Require = true
-begins_expression terminal.OpenParenthesis = true
-begins_expression terminal.OpenBracket = true
-begins_expression terminal.Bang = true
-begins_expression terminal.Minus = true
-begins_expression terminal.Plus = true
-begins_expression terminal.Increment = true
-begins_expression terminal.Decrement = true
+begins_expression (Of word.Null) = true
+begins_expression (Of word.True) = true
+begins_expression (Of word.False) = true
+begins_expression (Of word.Array) = true
+begins_expression (Of word.Isset) = true
+begins_expression (Of word.Include) = true
+begins_expression (Of word.Require) = true
+begins_expression (Of word.OpenParenthesis) = true
+begins_expression (Of word.OpenBracket) = true
+begins_expression (Of word.Bang) = true
+begins_expression (Of word.Minus) = true
+begins_expression (Of word.Plus) = true
+begins_expression (Of word.Increment) = true
+begins_expression (Of word.Decrement) = true
 begins_expression _ = false
 
 -- an operand as an expression. A push is none before its `=`, and counts as its place.
@@ -88,13 +90,13 @@ module _ (level : ℕ) (inner : Part → Reader Expression) where
   unfoldable pub index : Reader Expression
   index = do
     enter level
-    mark terminal.OpenBracket
+    mark (Of word.OpenBracket)
     at ← inner part.Whole
-    mark terminal.CloseBracket
+    mark (Of word.CloseBracket)
     gives at
 
   unfoldable pub indices : Reader (List Expression)
-  indices = many (is terminal.OpenBracket) index
+  indices = many (is (Of word.OpenBracket)) index
 
   unfoldable pub place_rule : Reader Place
   place_rule = do
@@ -106,21 +108,21 @@ module _ (level : ℕ) (inner : Part → Reader Expression) where
   unfoldable pub place_below : Reader Place
   place_below = do
     name ← variable
-    found ← many (is terminal.OpenBracket) (inner part.Index)
+    found ← many (is (Of word.OpenBracket)) (inner part.Index)
     gives (place name found)
 
   unfoldable pub group : Reader Expression
   group = do
     enter level
-    mark terminal.OpenParenthesis
+    mark (Of word.OpenParenthesis)
     within ← inner part.Whole
-    mark terminal.CloseParenthesis
+    mark (Of word.CloseParenthesis)
     gives within
 
   unfoldable pub item_rest : Expression → Reader Item
   item_rest first ts =
-      if is terminal.Arrow (head ts)
-      then made (mark terminal.Arrow >> inner part.Whole) (λ value. item (Some first) value) ts
+      if is (Of word.Arrow) (head ts)
+      then made (mark (Of word.Arrow) >> inner part.Whole) (λ value. item (Some first) value) ts
       else Ok (item None first, ts)
 
   unfoldable pub item_rule : Reader Item
@@ -129,30 +131,30 @@ module _ (level : ℕ) (inner : Part → Reader Expression) where
   unfoldable pub literal : Reader Expression
   literal = do
     enter level
-    mark terminal.OpenBracket
-    items ← any_items (λ _. item_rule) terminal.CloseBracket
+    mark (Of word.OpenBracket)
+    items ← any_items (λ _. item_rule) (Of word.CloseBracket)
     gives (tree.Array items)
 
   unfoldable pub array_call : Reader Expression
   array_call = do
     enter level
-    mark terminal.Array
-    mark terminal.OpenParenthesis
-    items ← any_items (λ _. item_rule) terminal.CloseParenthesis
+    mark (Of word.Array)
+    mark (Of word.OpenParenthesis)
+    items ← any_items (λ _. item_rule) (Of word.CloseParenthesis)
     gives (tree.Array items)
 
   -- a call, behind its name
   unfoldable pub call : Text → Reader Expression
   call name = do
     enter level
-    mark terminal.OpenParenthesis
-    arguments ← any_items (λ _. inner part.Whole) terminal.CloseParenthesis
+    mark (Of word.OpenParenthesis)
+    arguments ← any_items (λ _. inner part.Whole) (Of word.CloseParenthesis)
     gives (tree.Call name arguments)
 
   -- a name is that of a call where a parenthesis comes next, and else that of a constant
   unfoldable pub behind_name : Text → Reader Expression
   behind_name name ts =
-      if is terminal.OpenParenthesis (head ts) then call name ts else Ok (tree.Constant name, ts)
+      if is (Of word.OpenParenthesis) (head ts) then call name ts else Ok (tree.Constant name, ts)
 
   unfoldable pub named : Reader Expression
   named = kind name_in >>= behind_name
@@ -160,18 +162,18 @@ module _ (level : ℕ) (inner : Part → Reader Expression) where
   unfoldable pub isset : Reader Expression
   isset = do
     enter level
-    mark terminal.Isset
-    mark terminal.OpenParenthesis
-    places ← some_items (λ _. place_below) terminal.CloseParenthesis
+    mark (Of word.Isset)
+    mark (Of word.OpenParenthesis)
+    places ← some_items (λ _. place_below) (Of word.CloseParenthesis)
     gives (tree.Isset places)
 
   unfoldable pub primary : Reader Expression
   primary ts =
       if is terminal.Text (head ts) then made (kind text_in) tree.Text ts
       else if sees constant_in ts then sort constant_in ts
-      else if is terminal.OpenParenthesis (head ts) then group ts
-      else if is terminal.OpenBracket (head ts) then literal ts
-      else if is terminal.Array (head ts) then array_call ts
+      else if is (Of word.OpenParenthesis) (head ts) then group ts
+      else if is (Of word.OpenBracket) (head ts) then literal ts
+      else if is (Of word.Array) (head ts) then array_call ts
       else if is terminal.Name (head ts) then named ts
       else refuse ts
 
@@ -195,7 +197,7 @@ module _ (level : ℕ) (inner : Part → Reader Expression) where
       if sees prefix_in ts then prefixed ts
       else if sees step_in ts then stepped_first ts
       else if is terminal.Number (head ts) then made (kind number_in) tree.Number ts
-      else if is terminal.Isset (head ts) then isset ts
+      else if is (Of word.Isset) (head ts) then isset ts
       else (primary >>= (λ base. made indices (indexed base))) ts
 
   -- behind a place
@@ -215,16 +217,16 @@ module _ (level : ℕ) (inner : Part → Reader Expression) where
       Text → List Expression → Reader (ControlFlow Operand (List Expression))
   index_or_push name found = do
     enter level
-    mark terminal.OpenBracket
+    mark (Of word.OpenBracket)
     (λ ts.
-        if is terminal.CloseBracket (head ts)
-        then made (mark terminal.CloseBracket) (λ _. Break (operand.Push (place name found))) ts
-        else made (inner part.Whole >>= (λ at. mark terminal.CloseBracket >> gives at))
+        if is (Of word.CloseBracket) (head ts)
+        then made (mark (Of word.CloseBracket)) (λ _. Break (operand.Push (place name found))) ts
+        else made (inner part.Whole >>= (λ at. mark (Of word.CloseBracket) >> gives at))
         (λ at. Continue (found ++ at ∷ [])) ts)
 
   abbrev pub opening_step : Text → List Expression → Reader (ControlFlow Operand (List Expression))
   opening_step name found ts =
-      if is terminal.OpenBracket (head ts) then index_or_push name found ts
+      if is (Of word.OpenBracket) (head ts) then index_or_push name found ts
       else made (step_last (place name found)) Break ts
 
   -- what an expression begins with, where it is a variable
@@ -238,11 +240,11 @@ module _ (level : ℕ) (inner : Part → Reader Expression) where
 
   -- what stands right of a `??`, with the operator
   abbrev pub coalesce_right : Reader Expression
-  coalesce_right = enter level >> (mark terminal.Coalesce >> inner part.Coalesce)
+  coalesce_right = enter level >> (mark (Of word.Coalesce) >> inner part.Coalesce)
 
   unfoldable pub coalesce_rest : Expression → Reader Expression
   coalesce_rest left ts =
-      if is terminal.Coalesce (head ts)
+      if is (Of word.Coalesce) (head ts)
       then made coalesce_right (λ right. tree.Coalesce left right) ts
       else Ok (left, ts)
 
@@ -258,19 +260,19 @@ module _ (level : ℕ) (inner : Part → Reader Expression) where
   -- the last part of a conditional, with its colon
   abbrev pub last_branch : Expression → Option Expression → Reader Expression
   last_branch test between = do
-    mark terminal.Colon
+    mark (Of word.Colon)
     otherwise ← coalesce
     gives (tree.Conditional test between otherwise)
 
   unfoldable pub branches : Expression → Reader Expression
   branches test = do
-    mark terminal.Question
+    mark (Of word.Question)
     between ← middle
     last_branch test between
 
   unfoldable pub conditional_rest : Expression → Reader Expression
   conditional_rest test ts =
-      if is terminal.Question (head ts) then branches test ts else Ok (test, ts)
+      if is (Of word.Question) (head ts) then branches test ts else Ok (test, ts)
 
   -- an expression whose first operand was read
   unfoldable pub going_on : Expression → Reader Expression
@@ -286,7 +288,7 @@ module _ (level : ℕ) (inner : Part → Reader Expression) where
   unfoldable pub pushed : Place → Reader Expression
   pushed to = do
     enter level
-    mark terminal.Assign
+    mark (Of word.Assign)
     from ← inner part.Whole
     gives (tree.Push to from)
 

@@ -1,10 +1,11 @@
 -- What the functions of the lexer find, each by the first byte.
-use Rattle.std.specs.Prelude.{◌≡◌, ℕ, zero, suc, ◌+◌, ◌-◌, ◌<◌, Bool, not, ◌&&◌, ◌||◌, ◌==◌, nat_lt, if◌then◌else◌, List, [], ◌∷◌, ◌++◌, take, drop, Option, Some, None, Result, Ok, Err}
+use Rattle.std.specs.Prelude.{◌≡◌, ℕ, zero, suc, ◌+◌, ◌-◌, ◌<◌, Bool, not, ◌&&◌, ◌||◌, ◌==◌, nat_lt, if◌then◌else◌, List, [], ◌∷◌, ◌++◌, take, drop, codes, Option, Some, None, Result, Ok, Err}
 use Rattle.std.specs.List.{prefix_len}
 use Rattle.dp_lexer.specs.declared.spelling.Spelling.{Spelling}
 use Rattle.dp_lexer.specs.declared.class.Class.{Class}
 use Rattle.dp_lexer.specs.declared.class.Class.TheVariants as class
 use Rattle.dp_lexer.specs.declared.token.TokenKind.{TokenKind}
+use Rattle.dp_lexer.specs.declared.token.Word.{Word}
 use Rattle.dp_lexer.specs.declared.fault.Fault.{Fault}
 use Rattle.dp_lexer.specs.declared.fault.Fault.TheVariants as fault
 use Rattle.dp_lexer.specs.declared.fault.Wrong.{Wrong}
@@ -227,15 +228,15 @@ quote_at b r = if b == 39 then single_of (body_len 39 r) r else double_of (body_
 abbrev pub is_split : ℕ → List ℕ → Bool
 is_split b r = (b == 46 && begins is_digit r) || (b == 63 && begins (λ c. c == 62) r)
 
-abbrev pub single_operator : Option TokenKind → ℕ → List ℕ → Found
+abbrev pub single_operator : Option Word → ℕ → List ℕ → Found
 single_operator None b r = bad
 single_operator (Some k) b r = if is_split b r then bad else found (operator k) 1
 
-abbrev pub double_operator : Option TokenKind → ℕ → List ℕ → Found
+abbrev pub double_operator : Option Word → ℕ → List ℕ → Found
 double_operator None b r = single_operator (one_byte b) b r
 double_operator (Some k) b r = found (operator k) 2
 
-abbrev pub triple_operator : Option TokenKind → ℕ → ℕ → List ℕ → Found
+abbrev pub triple_operator : Option Word → ℕ → ℕ → List ℕ → Found
 triple_operator None b c t = double_operator (two_bytes b c) b (c ∷ t)
 triple_operator (Some k) b c t = found (operator k) 3
 
@@ -264,7 +265,7 @@ piece_at (b ∷ r) = piece_by (class_of b) b r
 
 abbrev pub meant_bytes : Meant → List ℕ
 meant_bytes (meant.Byte b) = b ∷ []
-meant_bytes (meant.Pair c) = 92 ∷ c ∷ []
+meant_bytes (meant.Pair c) = codes "\\" ++ c ∷ []
 
 abbrev pub shown_part : Option (Part × ℕ) → Option (List ℕ × ℕ)
 shown_part None = None

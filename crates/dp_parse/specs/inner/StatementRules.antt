@@ -6,6 +6,8 @@ use Rattle.dp_parse.specs.declared.ended.Ended.{Ended}
 use Rattle.dp_parse.specs.declared.ended.Body.{Body}
 use Rattle.dp_parse.specs.declared.ended.Parts.{Parts}
 use Rattle.dp_expressions.specs.declared.operand.Part.TheVariants as part
+use Rattle.dp_token_rules.specs.declared.terminal.Terminal.TheVariants.{Of}
+use Rattle.dp_lexer.specs.declared.token.Word.TheVariants as word
 use Rattle.dp_token_rules.specs.declared.terminal.Terminal.{Terminal}
 use Rattle.dp_token_rules.specs.declared.terminal.Terminal.TheVariants as terminal
 use Rattle.dp_tree.specs.declared.tree.Arm.{Arm}
@@ -36,8 +38,8 @@ on_its_line read ts = made read (stated (line_of ts)) ts
 module _ (body : Reader Body) where
   abbrev pub bodies_step : List Statement → Reader (ControlFlow (List Statement) (List Statement))
   bodies_step all ts =
-      if is terminal.CloseBrace (head ts)
-      then made (made (mark terminal.CloseBrace) (λ _. all)) Break ts
+      if is (Of word.CloseBrace) (head ts)
+      then made (made (mark (Of word.CloseBrace)) (λ _. all)) Break ts
       else made (made body (λ b. all ++ b.statement ∷ [])) Continue ts
 
   unfoldable pub bodies : Reader (List Statement)
@@ -45,21 +47,21 @@ module _ (body : Reader Body) where
 
   unfoldable pub braced : Reader Ended
   braced = do
-    mark terminal.OpenBrace
+    mark (Of word.OpenBrace)
     all ← bodies
     gives (whole (tree.Block all))
 
   -- the body of a head
   unfoldable pub head_body : Reader Body
-  head_body ts = if is terminal.OpenBrace (head ts) then on_its_line braced ts else body ts
+  head_body ts = if is (Of word.OpenBrace) (head ts) then on_its_line braced ts else body ts
 
 unfoldable pub empty : Reader Ended
-empty = made (mark terminal.Semicolon) (λ _. whole tree.Empty)
+empty = made (mark (Of word.Semicolon)) (λ _. whole tree.Empty)
 
 unfoldable pub bound_rest : Text → Reader Binding
 bound_rest first ts =
-    if is terminal.Arrow (head ts)
-    then made (mark terminal.Arrow >> variable) (λ value. binding (Some first) value) ts
+    if is (Of word.Arrow) (head ts)
+    then made (mark (Of word.Arrow) >> variable) (λ value. binding (Some first) value) ts
     else Ok (binding None first, ts)
 
 unfoldable pub bound : Reader Binding
@@ -67,11 +69,11 @@ bound = variable >>= bound_rest
 
 unfoldable pub global_rule : Reader Ended
 global_rule =
-    made (mark terminal.Global >> plain_items (λ _. variable) terminal.Semicolon)
+    made (mark (Of word.Global) >> plain_items (λ _. variable) (Of word.Semicolon))
     (λ names. whole (tree.Global names))
 
 unfoldable pub exit_word : Reader ℕ
-exit_word ts = if is terminal.Exit (head ts) then mark terminal.Exit ts else mark terminal.Die ts
+exit_word ts = if is (Of word.Exit) (head ts) then mark (Of word.Exit) ts else mark (Of word.Die) ts
 
 -- The number is how many levels of bodies are left, and the next in how many loops the statement
 -- stands. `body` reads a statement in a body one level down, in so many loops.
@@ -80,13 +82,13 @@ module _ (level : ℕ) (loops : ℕ) (expression : Reader Expression) (place : R
   unfoldable pub perform : Reader Ended
   perform = do
     value ← expression
-    mark terminal.Semicolon
+    mark (Of word.Semicolon)
     gives (whole (tree.Expression value))
 
   unfoldable pub echo : Reader Ended
   echo = do
-    mark terminal.Echo
-    values ← plain_items (λ _. expression) terminal.Semicolon
+    mark (Of word.Echo)
+    values ← plain_items (λ _. expression) (Of word.Semicolon)
     gives (whole (tree.Echo values))
 
   unfoldable pub block : Reader Ended
@@ -94,9 +96,9 @@ module _ (level : ℕ) (loops : ℕ) (expression : Reader Expression) (place : R
 
   unfoldable pub head_test : Reader Expression
   head_test = do
-    mark terminal.OpenParenthesis
+    mark (Of word.OpenParenthesis)
     found ← expression
-    mark terminal.CloseParenthesis
+    mark (Of word.CloseParenthesis)
     gives found
 
   -- an arm behind its `elseif` or its `else if`
@@ -113,14 +115,15 @@ module _ (level : ℕ) (loops : ℕ) (expression : Reader Expression) (place : R
   -- behind an `else` on this line
   unfoldable pub behind_else : List Arm → ℕ → Reader (ControlFlow Ended Arms)
   behind_else arms line ts =
-      if is terminal.If (head ts) then made (mark terminal.If >> next_arm arms line) Continue ts
+      if is (Of word.If) (head ts) then made (mark (Of word.If) >> next_arm arms line) Continue ts
       else made (otherwise arms) Break ts
 
   abbrev pub arms_step : Arms → Reader (ControlFlow Ended Arms)
   arms_step a ts =
-      if not a.1 && is terminal.ElseIf (head ts)
-      then made (mark terminal.ElseIf >>= next_arm a.0) Continue ts
-      else if not a.1 && is terminal.Else (head ts) then (mark terminal.Else >>= behind_else a.0) ts
+      if not a.1 && is (Of word.ElseIf) (head ts)
+      then made (mark (Of word.ElseIf) >>= next_arm a.0) Continue ts
+      else if not a.1 && is (Of word.Else) (head ts)
+      then (mark (Of word.Else) >>= behind_else a.0) ts
       else Ok (Break (ended (tree.If a.0 None) true), ts)
 
   unfoldable pub arms : Arms → Reader Ended
@@ -129,7 +132,7 @@ module _ (level : ℕ) (loops : ℕ) (expression : Reader Expression) (place : R
   unfoldable pub if_rule : Reader Ended
   if_rule = do
     enter level
-    line ← mark terminal.If
+    line ← mark (Of word.If)
     first ← next_arm [] line
     arms first
 
@@ -139,28 +142,28 @@ module _ (level : ℕ) (loops : ℕ) (expression : Reader Expression) (place : R
   unfoldable pub while_rule : Reader Ended
   while_rule = do
     enter level
-    mark terminal.While
+    mark (Of word.While)
     found ← head_test
     loop_body (λ b. tree.While found b)
 
   unfoldable pub do_while : Reader Ended
   do_while = do
     enter level
-    mark terminal.Do
+    mark (Of word.Do)
     b ← head_body (body (suc loops))
-    line ← mark terminal.While
+    line ← mark (Of word.While)
     found ← head_test
-    mark terminal.Semicolon
+    mark (Of word.Semicolon)
     gives (whole (tree.DoWhile b.statement line found))
 
   unfoldable pub for_rule : Reader Ended
   for_rule = do
     enter level
-    mark terminal.For
-    mark terminal.OpenParenthesis
-    before ← any_plain_items (λ _. expression) terminal.Semicolon
-    tests ← any_plain_items (λ _. expression) terminal.Semicolon
-    after ← any_plain_items (λ _. expression) terminal.CloseParenthesis
+    mark (Of word.For)
+    mark (Of word.OpenParenthesis)
+    before ← any_plain_items (λ _. expression) (Of word.Semicolon)
+    tests ← any_plain_items (λ _. expression) (Of word.Semicolon)
+    after ← any_plain_items (λ _. expression) (Of word.CloseParenthesis)
     loop_body (λ b. tree.For before tests after b)
 
   abbrev pub foreach_body : Expression → Binding → Reader Ended
@@ -169,16 +172,16 @@ module _ (level : ℕ) (loops : ℕ) (expression : Reader Expression) (place : R
   -- behind the subject
   abbrev pub foreach_bound : Expression → Reader Ended
   foreach_bound subject = do
-    mark terminal.As
+    mark (Of word.As)
     found ← bound
-    mark terminal.CloseParenthesis
+    mark (Of word.CloseParenthesis)
     foreach_body subject found
 
   unfoldable pub foreach : Reader Ended
   foreach = do
     enter level
-    mark terminal.Foreach
-    mark terminal.OpenParenthesis
+    mark (Of word.Foreach)
+    mark (Of word.OpenParenthesis)
     subject ← expression
     foreach_bound subject
 
@@ -186,17 +189,18 @@ module _ (level : ℕ) (loops : ℕ) (expression : Reader Expression) (place : R
   levels ts = if is terminal.Number (head ts) then kind (number_up_to loops) ts else Ok (1, ts)
 
   unfoldable pub loops_rule : Reader ℕ
-  loops_rule = levels >>= (λ n. made (mark terminal.Semicolon) (λ _. n))
+  loops_rule = levels >>= (λ n. made (mark (Of word.Semicolon)) (λ _. n))
 
   unfoldable pub break_rule : Reader Ended
   break_rule ts =
-      if nat_lt 0 loops then made (mark terminal.Break >> loops_rule) (λ n. whole (tree.Break n)) ts
+      if nat_lt 0 loops
+      then made (mark (Of word.Break) >> loops_rule) (λ n. whole (tree.Break n)) ts
       else refuse ts
 
   unfoldable pub continue_rule : Reader Ended
   continue_rule ts =
       if nat_lt 0 loops
-      then made (mark terminal.Continue >> loops_rule) (λ n. whole (tree.Continue n)) ts
+      then made (mark (Of word.Continue) >> loops_rule) (λ n. whole (tree.Continue n)) ts
       else refuse ts
 
   unfoldable pub maybe_up_to : Terminal → Reader (Option Expression)
@@ -206,47 +210,47 @@ module _ (level : ℕ) (loops : ℕ) (expression : Reader Expression) (place : R
 
   unfoldable pub return_rule : Reader Ended
   return_rule =
-      made (mark terminal.Return >> maybe_up_to terminal.Semicolon)
+      made (mark (Of word.Return) >> maybe_up_to (Of word.Semicolon))
       (λ value. whole (tree.Return value))
 
   unfoldable pub unset : Reader Ended
   unset = do
-    mark terminal.Unset
-    mark terminal.OpenParenthesis
-    places ← some_items (λ _. place) terminal.CloseParenthesis
-    mark terminal.Semicolon
+    mark (Of word.Unset)
+    mark (Of word.OpenParenthesis)
+    places ← some_items (λ _. place) (Of word.CloseParenthesis)
+    mark (Of word.Semicolon)
     gives (whole (tree.Unset places))
 
   unfoldable pub exit_value : Reader (Option Expression)
   exit_value ts =
-      if is terminal.OpenParenthesis (head ts)
-      then (mark terminal.OpenParenthesis >> maybe_up_to terminal.CloseParenthesis) ts
+      if is (Of word.OpenParenthesis) (head ts)
+      then (mark (Of word.OpenParenthesis) >> maybe_up_to (Of word.CloseParenthesis)) ts
       else Ok (None, ts)
 
   unfoldable pub exit : Reader Ended
   exit = do
     exit_word
     value ← exit_value
-    mark terminal.Semicolon
+    mark (Of word.Semicolon)
     gives (whole (tree.Exit value))
 
   -- a statement that begins with this sort of token
   unfoldable pub by_keyword : Terminal → Reader Ended
-  by_keyword terminal.Echo = echo
-  by_keyword terminal.OpenBrace = block
-  by_keyword terminal.Semicolon = empty
-  by_keyword terminal.If = if_rule
-  by_keyword terminal.While = while_rule
-  by_keyword terminal.Do = do_while
-  by_keyword terminal.For = for_rule
-  by_keyword terminal.Foreach = foreach
-  by_keyword terminal.Break = break_rule
-  by_keyword terminal.Continue = continue_rule
-  by_keyword terminal.Return = return_rule
-  by_keyword terminal.Global = global_rule
-  by_keyword terminal.Unset = unset
-  by_keyword terminal.Exit = exit
-  by_keyword terminal.Die = exit
+  by_keyword (Of word.Echo) = echo
+  by_keyword (Of word.OpenBrace) = block
+  by_keyword (Of word.Semicolon) = empty
+  by_keyword (Of word.If) = if_rule
+  by_keyword (Of word.While) = while_rule
+  by_keyword (Of word.Do) = do_while
+  by_keyword (Of word.For) = for_rule
+  by_keyword (Of word.Foreach) = foreach
+  by_keyword (Of word.Break) = break_rule
+  by_keyword (Of word.Continue) = continue_rule
+  by_keyword (Of word.Return) = return_rule
+  by_keyword (Of word.Global) = global_rule
+  by_keyword (Of word.Unset) = unset
+  by_keyword (Of word.Exit) = exit
+  by_keyword (Of word.Die) = exit
   by_keyword _ = perform
 
   unfoldable pub any_statement : Reader Ended
@@ -275,11 +279,11 @@ statement expressions level loops =
 unfoldable pub function_rule : Depth → Reader Function
 function_rule depth = do
   enter depth.bodies
-  line ← mark terminal.Function
+  line ← mark (Of word.Function)
   name ← kind name_in
-  mark terminal.OpenParenthesis
-  parameters ← any_items (λ found. kind (parameter_in found)) terminal.CloseParenthesis
-  mark terminal.OpenBrace
+  mark (Of word.OpenParenthesis)
+  parameters ← any_items (λ found. kind (parameter_in found)) (Of word.CloseParenthesis)
+  mark (Of word.OpenBrace)
   all ← bodies (body_below depth.expressions depth.bodies 0)
   gives (function_of line name parameters all)
 
@@ -287,18 +291,18 @@ function_rule depth = do
 unfoldable pub definition : Reader Expression → Reader Definition
 definition expression = do
   name ← kind name_in
-  mark terminal.Assign
+  mark (Of word.Assign)
   value ← expression
   gives (definition_of name value)
 
 abbrev pub next_definition : Reader Expression → Reader Definition
-next_definition expression = mark terminal.Comma >> definition expression
+next_definition expression = mark (Of word.Comma) >> definition expression
 
 unfoldable pub definitions : Reader Expression → Reader (List Definition)
 definitions expression = do
   mark terminal.Const
   first ← definition expression
-  more ← many (is terminal.Comma) (next_definition expression)
+  more ← many (is (Of word.Comma)) (next_definition expression)
   gives (first ∷ more)
 
 -- how many of these tokens stand before the first with which a constant's expression does not go
@@ -328,13 +332,13 @@ of_constants read ts =
 unfoldable pub constants_rule : Reader Expression → Reader Ended
 constants_rule expression = do
   all ← of_constants (definitions expression)
-  mark terminal.Semicolon
+  mark (Of word.Semicolon)
   gives (whole (tree.Constants all))
 
 abbrev pub file_step : Depth → Parts → Reader (ControlFlow Parts Parts)
 file_step depth parts ts =
     if is terminal.End (head ts) then Ok (Break parts, ts)
-    else if is terminal.Function (head ts)
+    else if is (Of word.Function) (head ts)
     then made (made (function_rule depth) (with_function parts)) Continue ts
     else if is terminal.Const (head ts)
     then made (made (on_its_line (constants_rule (reading depth.expressions part.Whole)))
@@ -350,7 +354,8 @@ at_end a ts = if is terminal.End (head ts) then Ok (a, ts) else refuse ts
 
 unfoldable pub semicolon : Expression → Reader Expression
 semicolon e ts =
-    if is terminal.Semicolon (head ts) then (made (mark terminal.Semicolon) (λ _. e) >>= at_end) ts
+    if is (Of word.Semicolon) (head ts)
+    then (made (mark (Of word.Semicolon)) (λ _. e) >>= at_end) ts
     else at_end e ts
 
 unfoldable pub expression_text : ℕ → Reader Expression

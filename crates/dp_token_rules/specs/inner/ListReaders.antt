@@ -2,8 +2,9 @@
 use Rattle.std.specs.Prelude.{Bool, if◌then◌else◌, List, [], ◌∷◌, ◌++◌, Ok}
 use Rattle.std.specs.declared.ops.ControlFlow.{ControlFlow}
 use Rattle.std.specs.declared.ops.ControlFlow.TheVariants.{Continue, Break}
+use Rattle.dp_token_rules.specs.declared.terminal.Terminal.TheVariants.{Of}
+use Rattle.dp_lexer.specs.declared.token.Word.TheVariants as word
 use Rattle.dp_token_rules.specs.declared.terminal.Terminal.{Terminal}
-use Rattle.dp_token_rules.specs.declared.terminal.Terminal.TheVariants as terminal
 use Rattle.dp_token_rules.specs.Terminals.{is, head}
 use Rattle.dp_token_rules.specs.inner.Input.{Reader, ◌>>=◌, ◌>>◌, made, mark, closed}
 
@@ -16,7 +17,7 @@ module _ {A : Type 0} (item : List A → Reader A) (close : Terminal) where
 
   abbrev pub plain_step : List A → Reader (ControlFlow (List A) (List A))
   plain_step all ts =
-      if is terminal.Comma (head ts) then (mark terminal.Comma >> next_item all) ts
+      if is (Of word.Comma) (head ts) then (mark (Of word.Comma) >> next_item all) ts
       else last_item all ts
 
   -- behind a comma
@@ -25,7 +26,7 @@ module _ {A : Type 0} (item : List A → Reader A) (close : Terminal) where
 
   abbrev pub comma_step : List A → Reader (ControlFlow (List A) (List A))
   comma_step all ts =
-      if is terminal.Comma (head ts) then (mark terminal.Comma >> behind_comma all) ts
+      if is (Of word.Comma) (head ts) then (mark (Of word.Comma) >> behind_comma all) ts
       else last_item all ts
 
   unfoldable pub plain_items : Reader (List A)
