@@ -1,6 +1,7 @@
 pub mod Runs
 pub mod AtOnceLaws
 pub mod Tails
+pub mod GivenUp
 pub mod Layers
 pub mod StatementLayers
 pub mod AfterBodies

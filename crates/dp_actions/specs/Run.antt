@@ -26,6 +26,10 @@ infixr 10 ◌>>=◌
 abbrev pub ◌>>=◌ : {A B : Type 0} → Run A → (A → State → Run B) → Run B
 run >>= next = and_then run next
 
+-- the value of a part is given up
+abbrev pub given_up : {A : Type 0} → A → State → Run Unit
+given_up a s = Done tt s
+
 -- a fatal fault, in the file and on the line of the top frame
 abbrev pub fatal : {A : Type 0} → FatalKind → State → Run A
 fatal kind s = Over (Fatal kind (file_of s) (line_of s)) s

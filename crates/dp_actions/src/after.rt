@@ -1,6 +1,7 @@
 //! What is done with what an evaluation answers: nothing where it broke off.
 
 ghost use Rattle.dp_state.specs.declared.state.State.{State as AnyState};
+ghost use Rattle.dp_tree.specs.declared.tree.Order.{Order as AnyOrder};
 ghost use Rattle.dp_value.specs.declared.value.Value.TheVariants as variant;
 ghost use Rattle.dp_value.specs.Value.{data_of};
 ghost use Rattle.dp_operations.specs.Binary.{binary_of};
@@ -9,14 +10,14 @@ ghost use Rattle.dp_actions.specs.declared.signal.Signal.TheVariants as way;
 ghost use Rattle.dp_actions.specs.After.{Then};
 ghost use Rattle.dp_actions.specs.Effects.{exit_run, print_run};
 ghost use Rattle.dp_actions.specs.Places.{assign_run, combined, missing_run, step_under};
-ghost use Rattle.dp_actions.specs.Run.{Done};
+ghost use Rattle.dp_actions.specs.Run.{Done, and_then, given_up};
 ghost use Rattle.dp_actions.specs.Values.{holds, value_run};
 
 use crate::answers::{exit_value, print_value, value_of};
-use crate::changes::{combine, step_place};
+use crate::changes::{combine, put_step, step_place};
 use crate::halt::Halt;
 use crate::joins::operated;
-use crate::places::{assign_place, is_missing_place};
+use crate::places::{assign_place, is_missing_place, put_place};
 use crate::signal::Signal;
 use dp_operations::unary;
 use dp_state::State;
@@ -117,19 +118,6 @@ pub fn then_exit(value: Result<Value, Halt>, state: &mut State) -> Result<Signal
     }
 }
 
-/// On with the next statement.
-pub fn then_next(value: Result<Value, Halt>) -> Result<Signal, Halt>
-    ensures { (s : AnyState) → Then value (λ _ t. Done way.Next t) s result s }
-{
-    match value {
-        Ok(value) => {
-            drop(value);
-            Ok(Signal::Next)
-        }
-        Err(halt) => Err(halt),
-    }
-}
-
 /// Out of the function or the file, with a value.
 pub fn then_return(value: Result<Value, Halt>) -> Result<Signal, Halt>
     ensures { (s : AnyState) → Then value (λ v t. Done (way.Return v) t) s result s }
@@ -193,6 +181,27 @@ pub fn then_step(
     }
 }
 
+/// Applies `++` or `--` to a place whose indices are evaluated. Its value is given up.
+pub fn then_put_step(
+    alloc: Global,
+    op: UnaryOp,
+    name: &Bytes,
+    indices: Result<Items<Value>, Halt>,
+    state: &mut State,
+) -> Result<(), Halt>
+    ensures { (order : AnyOrder) → Then indices (λ values s. and_then (step_under op order name.now values s) given_up)
+        state.old result state.new }
+{
+    match indices {
+        Ok(indices) => {
+            let answer = put_step(alloc, op, name, indices.as_slice(), state);
+            drop(indices);
+            answer
+        }
+        Err(halt) => Err(halt),
+    }
+}
+
 /// Writes a value, or one more entry, and gives the value.
 pub fn then_assign(
     alloc: Global,
@@ -206,6 +215,24 @@ pub fn then_assign(
 {
     match value {
         Ok(value) => assign_place(alloc, name, indices, push, value, state),
+        Err(halt) => Err(halt),
+    }
+}
+
+/// Writes a value, or one more entry.
+pub fn then_put_place(
+    alloc: Global,
+    name: &Bytes,
+    indices: &[Value],
+    push: bool,
+    value: Result<Value, Halt>,
+    state: &mut State,
+) -> Result<(), Halt>
+    ensures { Then value (λ v s. and_then (assign_run name.now indices.now push v s) given_up) state.old result
+        state.new }
+{
+    match value {
+        Ok(value) => put_place(alloc, name, indices, push, value, state),
         Err(halt) => Err(halt),
     }
 }

@@ -4,13 +4,15 @@
 
 ghost use Rattle.std.specs.Prelude.{◌≡◌, IsTrue};
 ghost use Rattle.dp_tree.specs.declared.operators.BinaryOp.TheVariants as operator;
+ghost use Rattle.dp_tree.specs.declared.tree.Order.{Order as AnyOrder};
 ghost use Rattle.dp_actions.specs.AtOnce.{AtOnce};
+ghost use Rattle.dp_actions.specs.Run.{and_then, given_up};
 ghost use Rattle.dp_actions.specs.Places.{combined, step_from as from_old, step_under, step_written, stepped};
 
 use crate::answers::value_of;
 use crate::halt::Halt;
 use crate::joins::{grown, operated};
-use crate::places::{assign_place, read_place};
+use crate::places::{assign_place, put_place, read_place};
 use dp_operations::unary;
 use dp_state::State;
 use dp_tree::{BinaryOp, Order, UnaryOp};
@@ -56,6 +58,23 @@ pub fn step_place(
 {
     let old = read_place(alloc, name, indices, state)?;
     step_from(alloc, op, order, name, indices, old, state)
+}
+
+/// Applies `++` or `--` to a place. Its value is given up, in whatever order it was asked for.
+pub fn put_step(
+    alloc: Global,
+    op: UnaryOp,
+    name: &Bytes,
+    indices: &[Value],
+    state: &mut State,
+) -> Result<(), Halt>
+    ensures { (order : AnyOrder) → AtOnce (and_then (step_under op order name.now indices.now state.old) given_up)
+        result state.new }
+{
+    let old = read_place(alloc, name, indices, state)?;
+    let new = value_of(unary(op, &old), state)?;
+    drop(old);
+    put_place(alloc, name, indices, false, new, state)
 }
 
 /// A `++` or `--` of an old value.

@@ -1,6 +1,7 @@
 //! Why a run breaks off.
 
 use dp_state::{Moment, Outcome};
+use dp_tree::Boxed;
 use dp_value::Memory;
 use std::alloc::AllocFailed;
 
@@ -9,8 +10,8 @@ use std::alloc::AllocFailed;
 pub enum Halt {
     /// The program is over.
     Finished(Outcome),
-    /// The moment came at which it was to stop.
-    Stopped(Moment),
+    /// The moment came at which it was to stop. It is on the heap, since most answers have none.
+    Stopped(Boxed<Moment>),
     /// Out of memory.
     Memory,
 }

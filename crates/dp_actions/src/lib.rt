@@ -26,8 +26,8 @@ mod signal;
 mod turns;
 
 pub use after::{
-    then_assign, then_binary, then_combine, then_exit, then_holds, then_missing, then_next,
-    then_print, then_return, then_signal, then_step, then_truth, then_unary,
+    then_assign, then_binary, then_combine, then_exit, then_holds, then_missing, then_print,
+    then_put_place, then_put_step, then_return, then_signal, then_step, then_truth, then_unary,
 };
 pub use answers::{builtin_value, exit_value, is_missing, print_value, value_of};
 pub use bindings::{bind_all, bind_entry};

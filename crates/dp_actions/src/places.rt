@@ -11,7 +11,7 @@ ghost use Rattle.dp_operations.specs.Indices.{read_by as read_under};
 ghost use Rattle.dp_actions.specs.InPlace.{entries_by};
 ghost use Rattle.dp_actions.specs.Loops.{bind_name};
 ghost use Rattle.dp_actions.specs.Values.{value_run};
-ghost use Rattle.dp_actions.specs.Run.{taken};
+ghost use Rattle.dp_actions.specs.Run.{and_then, given_up, taken};
 
 use crate::answers::{missing_of, value_of};
 use crate::entry_reads::{Reading, entry_by, is_missing_by};
@@ -106,7 +106,22 @@ pub fn assign_place(
     assign_keyed(name, keys.as_slice(), push, value, state)
 }
 
-/// The same under keys.
+/// Writes a value, or one more entry.
+pub fn put_place(
+    alloc: Global,
+    name: &Bytes,
+    indices: &[Value],
+    push: bool,
+    value: Value,
+    state: &mut State,
+) -> Result<(), Halt>
+    ensures { AtOnce (and_then (assign_run name.now indices.now push value state.old) given_up) result state.new }
+{
+    let keys = keys_of(alloc, indices)?;
+    write_keyed(name, keys.as_slice(), push, value, state)
+}
+
+/// Writes a value, or one more entry, under keys, and gives the value.
 fn assign_keyed(
     name: &Bytes,
     keys: &[Option<Key>],

@@ -15,8 +15,6 @@ use Rattle.dp_meaning.specs.inner.Drive.{Rules, Reached, Gives, Ends, Stops, dri
 use Rattle.dp_actions.specs.AtOnce.{AtOnce, Leaves}
 use Rattle.dp_actions.specs.After.{DoneThen, Then}
 use Rattle.dp_actions.specs.Run.{Run, Done, Over, At, and_then}
-use Rattle.dp_actions.specs.Values.{holds}
-use Rattle.dp_value.specs.declared.value.Value.{Value}
 use Rattle.dp_meaning.specs.Trace.{moment_of}
 use Rattle.dp_actions.proofs.Runs.{and_then-assoc}
 use Rattle.dp_meaning.specs.Writes.{arrived, written}
@@ -112,17 +110,24 @@ module _ {A B C : Type 0} {rules : Rules} where
       subst (λ z. Evaluates rules z x t) (and_then-assoc r f next) (goes_on next e k)
 
 -- a part whose value is only tested, and what follows
-module _ {C : Type 0} {rules : Rules} (r : Run Value) (next : Bool → State → Run C) where
-  pub tested_off : {h : Halt} {s : State} → Evaluates rules (and_then r (λ v u. Done (holds v) u)) (Err h) s
-      → Evaluates rules (and_then r (λ v u. next (holds v) u)) (Err h) s
+module _ {A B C : Type 0} {rules : Rules} (test : A → B) (r : Run A) (next : B → State → Run C) where
+  pub tested_off : {h : Halt} {s : State} → Evaluates rules (and_then r (λ v u. Done (test v) u)) (Err h) s
+      → Evaluates rules (and_then r (λ v u. next (test v) u)) (Err h) s
   unfolding and_then
-  tested_off e = joined_off r (λ v u. Done (holds v) u) next e
+  tested_off e = joined_off r (λ v u. Done (test v) u) next e
 
-  pub tested_on : {b : Bool} {s t : State} {x : Result C Halt}
-      → Evaluates rules (and_then r (λ v u. Done (holds v) u)) (Ok b) s
-      → Evaluates rules (next b s) x t → Evaluates rules (and_then r (λ v u. next (holds v) u)) x t
+  pub tested_on : {b : B} {s t : State} {x : Result C Halt}
+      → Evaluates rules (and_then r (λ v u. Done (test v) u)) (Ok b) s
+      → Evaluates rules (next b s) x t → Evaluates rules (and_then r (λ v u. next (test v) u)) x t
   unfolding and_then
-  tested_on e k = joined_on r (λ v u. Done (holds v) u) next e k
+  tested_on e k = joined_on r (λ v u. Done (test v) u) next e k
+
+  pub tested_then : {done : Result B Halt} {s t : State} {x : Result C Halt}
+      → Evaluates rules (and_then r (λ v u. Done (test v) u)) done s → Then done next s x t
+      → Evaluates rules (and_then r (λ v u. next (test v) u)) x t
+  unfolding and_then
+  tested_then {done} {s} {t} {x} e h =
+      subst (λ z. Evaluates rules z x t) (and_then-assoc r (λ v u. Done (test v) u) next) (then_on e h)
 
 -- a moment, and what follows
 module _ {B : Type 0} {rules : Rules} where

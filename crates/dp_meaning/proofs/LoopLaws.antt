@@ -19,7 +19,7 @@ use Rattle.dp_meaning.specs.inner.Drive.{Rules, Evaluates, moment_run}
 use Rattle.dp_meaning.specs.inner.Evaluation.{goes_by}
 use Rattle.dp_actions.specs.Expressions.{evaluation, evaluations}
 use Rattle.dp_actions.specs.Loops.{step_after, after_body, last_holds, turns, do_turns, bind, each_run}
-use Rattle.dp_actions.specs.Run.{Run, Done, At, and_then}
+use Rattle.dp_actions.specs.Run.{Run, Done, At, and_then, given_up}
 use Rattle.dp_actions.specs.Statements.{statement_run}
 use Rattle.dp_actions.specs.Values.{holds}
 use Rattle.dp_meaning.proofs.Drives.{gives, breaks_off, goes_on, passes, stops_at, tested_off, tested_on}
@@ -37,6 +37,19 @@ module _ {O : Type 0} (rules : Rules) (by : Evaluator O) (n line : ℕ) (tests a
 
   abbrev pub while-body : State → Run Signal
   while-body = statement_run run (goes_by by)
+
+  -- whether the test holds, and what comes after a body without its values
+  abbrev pub while-holds : State → Run Bool
+  while-holds s = and_then (while-test s) (λ values t. Done (last_holds values) t)
+
+  abbrev pub while-after : State → Run Unit
+  while-after s = and_then (while-next s) given_up
+
+  -- the rest of a turn behind its test, and the turns behind it
+  abbrev while-rest : Bool → State → Run Signal
+  while-rest on u =
+      if on then and_then (while-body u) (λ g v. after_body g (λ w. and_then (while-next w)
+      (λ _ x. turns (n - 1) line while-test while-next while-body x)) v) else Done Next u
 
   turns-is : (s : State) → turns n line while-test while-next while-body s
       ≡ At Place line s (λ t. and_then (while-test t) (λ values u.
@@ -56,21 +69,21 @@ module _ {O : Type 0} (rules : Rules) (by : Evaluator O) (n line : ℕ) (tests a
   turn-stops e = rw turns-is (stops_at e)
 
   module _ {s t : State} (at : Evaluates rules (moment_run Place line s) (Ok tt) t) where
-    pub test-breaks : {u : State} {h : Halt} → Evaluates rules (while-test t) (Err h) u
+    pub test-breaks : {u : State} {h : Halt} → Evaluates rules (while-holds t) (Err h) u
         → Evaluates rules (turns n line while-test while-next while-body s) (Err h) u
-    test-breaks e = rw turns-is (passes at (breaks_off _ e))
+    test-breaks e = rw turns-is (passes at (tested_off last_holds (while-test t) while-rest e))
 
-    module _ {values : List Value} {u : State} (tested : Evaluates rules (while-test t) (Ok values) u) where
-      pub turns-end : last_holds values ≡ false
-          → Evaluates rules (turns n line while-test while-next while-body s) (Ok Next) u
-      turns-end z = rw turns-is (passes at (goes_on _ tested (rw z gives)))
+    module _ {on : Bool} {u : State} (tested : Evaluates rules (while-holds t) (Ok on) u) where
+      pub turns-end : on ≡ false → Evaluates rules (turns n line while-test while-next while-body s) (Ok Next) u
+      turns-end z = rw turns-is (passes at (tested_on last_holds (while-test t) while-rest tested (rw z gives)))
 
-      module _ (true-test : last_holds values ≡ true) where
+      module _ (true-test : on ≡ true) where
         with-body : (x : Result Signal Halt) (v : State)
             → Evaluates rules (and_then (while-body u) (λ g v. after_body g
             (λ w. and_then (while-next w) (λ _ x. turns (n - 1) line while-test while-next while-body x)) v)) x v
             → Evaluates rules (turns n line while-test while-next while-body s) x v
-        with-body x v e = rw turns-is (passes at (goes_on _ tested (rw true-test e)))
+        with-body x v e =
+            rw turns-is (passes at (tested_on last_holds (while-test t) while-rest tested (rw true-test e)))
 
         pub body-breaks : {v : State} {h : Halt} → Evaluates rules (while-body u) (Err h) v
             → Evaluates rules (turns n line while-test while-next while-body s) (Err h) v
@@ -81,16 +94,23 @@ module _ {O : Type 0} (rules : Rules) (by : Evaluator O) (n line : ℕ) (tests a
               → Evaluates rules (turns n line while-test while-next while-body s) (Ok out) v
           body-out {out} e = with-body (Ok out) v (goes_on _ ran (rw (turn-out g _ v out e) gives))
 
-          module _ (on : step_after g ≡ turn.On) where
-            pub next-breaks : {w : State} {h : Halt} → Evaluates rules (while-next v) (Err h) w
-                → Evaluates rules (turns n line while-test while-next while-body s) (Err h) w
-            next-breaks {w} {h} e = with-body (Err h) w (goes_on _ ran (rw (turn-on g _ v on) (breaks_off _ e)))
+          module _ (next : step_after g ≡ turn.On) where
+            abbrev while-more : Unit {0} → State → Run Signal
+            while-more _ x = turns (n - 1) line while-test while-next while-body x
 
-            pub turn-goes-on : {given : List Value} {w : State} (x : Result Signal Halt) (y : State)
-                → Evaluates rules (while-next v) (Ok given) w
+            pub next-breaks : {w : State} {h : Halt} → Evaluates rules (while-after v) (Err h) w
+                → Evaluates rules (turns n line while-test while-next while-body s) (Err h) w
+            next-breaks {w} {h} e =
+                with-body (Err h) w (goes_on _ ran (rw (turn-on g _ v next)
+                (tested_off (λ _. tt) (while-next v) while-more e)))
+
+            pub turn-goes-on : {w : State} (x : Result Signal Halt) (y : State)
+                → Evaluates rules (while-after v) (Ok tt) w
                 → Evaluates rules (turns (n - 1) line while-test while-next while-body w) x y
                 → Evaluates rules (turns n line while-test while-next while-body s) x y
-            turn-goes-on x y e f = with-body x y (goes_on _ ran (rw (turn-on g _ v on) (goes_on _ e f)))
+            turn-goes-on x y e f =
+                with-body x y (goes_on _ ran (rw (turn-on g _ v next)
+                (tested_on (λ _. tt) (while-next v) while-more e f)))
 
 -- ---- `do`
 
@@ -137,21 +157,21 @@ module _ {O : Type 0} (rules : Rules) (by : Evaluator O) (n line : ℕ) (tested-
             → Evaluates rules (and_then (do-test u) (λ tested w. Done (holds tested) w)) (Err h) v
             → Evaluates rules (do_turns n line do-test do-body s) (Err h) v
         do-test-breaks e =
-            rw do-is (goes_on _ ran (rw (turn-on g _ t on) (passes at (tested_off (do-test u) more-turns e))))
+            rw do-is (goes_on _ ran (rw (turn-on g _ t on) (passes at (tested_off holds (do-test u) more-turns e))))
 
         module _ {tested : Bool} {v : State} (ev : Evaluates rules
             (and_then (do-test u) (λ tested w. Done (holds tested) w)) (Ok tested) v) where
           pub do-end : tested ≡ false → Evaluates rules (do_turns n line do-test do-body s) (Ok Next) v
           do-end z =
               rw do-is (goes_on _ ran (rw (turn-on g _ t on) (passes at
-              (tested_on (do-test u) more-turns ev (rw z gives)))))
+              (tested_on holds (do-test u) more-turns ev (rw z gives)))))
 
           pub do-goes-on : tested ≡ true → (x : Result Signal Halt) (w : State)
               → Evaluates rules (do_turns (n - 1) line do-test do-body v) x w
               → Evaluates rules (do_turns n line do-test do-body s) x w
           do-goes-on z x w e =
               rw do-is (goes_on _ ran (rw (turn-on g _ t on) (passes at
-              (tested_on (do-test u) more-turns ev (rw z e)))))
+              (tested_on holds (do-test u) more-turns ev (rw z e)))))
 
 -- ---- `foreach`
 

@@ -35,7 +35,7 @@ use Rattle.dp_actions.specs.Places.{PlaceRun, isset_run, variable}
 use Rattle.dp_actions.specs.Run.{Run, Done, and_then, fatal}
 use Rattle.dp_actions.specs.Setting.{Setting, Part}
 use Rattle.dp_actions.specs.Values.{value_run, write_run, holds, is_missing}
-use Rattle.dp_meaning.proofs.Always.{Each}
+use Rattle.dp_meaning.proofs.Each.{Each}
 
 -- a run that gives something or is fatal at once, and leaves the state as it is
 pub data IsPlain {A : Type 0} (s : State) (r : Run A) : Type 0 where
@@ -139,7 +139,7 @@ both-true true false e = absurd (cc)
 both-true false b e = absurd (cc)
 
 -- parts that are pure are plain
-each-pure : {X Y : Type 0} (pure : X → Bool) (run : X → Y) (Q : Y → Type 0)
+pub each-pure : {X Y : Type 0} (pure : X → Bool) (run : X → Y) (Q : Y → Type 0)
     (xs : List ((x : X) × (pure x ≡ true → Q (run x))))
     → purity.all_pure (map pure (map (λ e. e.0) xs)) ≡ true → Each Q (map run (map (λ e. e.0) xs))
 each-pure pure run Q [] all = tt

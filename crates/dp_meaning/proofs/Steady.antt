@@ -1,114 +1,20 @@
 -- A program leaves the number of moments alone, so its moments are numbered from one on.
-use Rattle.std.proofs.Common.{◌≡◌, ℕ, ◌+◌, Bool, true, false, if◌then◌else◌, List, [], ◌∷◌, ◌++◌, length, Option, Some, None, Result, Ok, Err, refl, sym, ap, ◌∙◌}
-use Rattle.std.specs.Prelude.{◌==◌, nat_le, unwrap_or}
-use Rattle.std.specs.Option.{option_map_or}
+use Rattle.std.proofs.Common.{◌≡◌, ℕ, refl, sym, ap, ◌∙◌}
 use Rattle.dp_tree.specs.declared.bundle.Bundle.{Bundle}
-use Rattle.dp_tree.specs.Files.{functions_of}
-use Rattle.dp_value.specs.declared.errors.WriteError.{WriteError}
-use Rattle.dp_value.specs.declared.key.Key.{Key}
-use Rattle.dp_value.specs.declared.value.Value.{Value}
-use Rattle.dp_value.specs.declared.value.Value.TheVariants.{Null}
-use Rattle.dp_value.specs.Data.{Data}
-use Rattle.dp_value.specs.Entry.{write_result, removed}
-use Rattle.dp_value.specs.Value.{data_of, value_of}
-use Rattle.dp_state.specs.declared.moments.FatalKind.{FatalKind}
-use Rattle.dp_state.specs.declared.moments.FatalKind.TheVariants.{Arguments, Redeclared, TooDeep}
-use Rattle.dp_state.specs.declared.state.Frame.{Frame}
 use Rattle.dp_state.specs.declared.state.State.{State}
-use Rattle.dp_state.specs.declared.vars.Slot.TheVariants.{Bound}
-use Rattle.dp_state.specs.Constants.{with_constant}
-use Rattle.dp_state.specs.Functions.{called, called_frame, included, included_frame, any_declared}
-use Rattle.dp_state.specs.Places.{assigned, unset, then_state, with_global, with_null, with_own, with_value, with_variables}
-use Rattle.dp_state.specs.States.{entered, frame_limit, owner_at, printed, read_at, variables_at}
-use Rattle.dp_state.specs.Variables.{Variables, with_slot, without}
-use Rattle.dp_tree.specs.declared.tree.Function.{Function}
-use Rattle.dp_meaning.specs.Programs.{program_run, setting_of}
+use Rattle.dp_meaning.specs.Programs.{program_run}
 use Rattle.dp_actions.specs.Run.{Run}
-use Rattle.dp_meaning.proofs.Always.{Always, IsKept, IsKeptBy}
-use Rattle.dp_meaning.proofs.AlwaysPrograms.{Always-program, Keeps-setting}
+use Rattle.dp_meaning.proofs.Always.{Always, Always-program, kept-part}
+use Rattle.dp_meaning.proofs.Apart.{IsApart, IsBeside, either-ok}
 
--- ---- steps
+abbrev pub moments_of : State → ℕ
+moments_of s = s.moments
 
-as-either : (b : Bool) (s t : State) (n : ℕ) → s.moments ≡ n → t.moments ≡ n → (if b then s else t).moments ≡ n
-as-either true s t n h k = h
-as-either false s t n h k = k
+pub apart : IsApart moments_of
+apart = record { globals = λ vs s. refl; own = λ at vs s. refl; constants = λ cs s. refl }
 
-either-ok : (b : Bool) (s t : State) (kind : FatalKind) → (if b then Ok s else Err kind) ≡ Ok t → s ≡ t
-either-ok true s t kind e = cc
-either-ok false s t kind e = absurd (cc)
-
-moments-own : (at : ℕ) (variables : Variables) (s : State) → (with_own at variables s).moments ≡ s.moments
-moments-own at variables s = as-either _ _ _ s.moments refl refl
-
-moments-value : (level : ℕ) (name : List ℕ) (v : Value) (s : State) → (with_value level name v s).moments ≡ s.moments
-moments-value level name v s = as-either _ _ _ s.moments refl (moments-own (owner_at s level) _ s)
-
-moments-then : (r : Result Data WriteError) (f : Data → State) (n : ℕ) (t : State) → ((d : Data) → (f d).moments ≡ n)
-    → then_state r f ≡ Ok t
-    → t.moments ≡ n
-moments-then (Ok d) f n t h e = let same : f d ≡ t = cc in ap (λ (u : State). u.moments) (sym same) ∙ h d
-moments-then (Err w) f n t h e = absurd (cc)
-
-pub moments-assigned : (level : ℕ) (name : List ℕ) (keys : List (Option Key)) (push : Bool) (v : Value) (s t : State)
-    → assigned level name keys push v s ≡ Ok t → t.moments ≡ s.moments
-moments-assigned level name keys push v s t e =
-    moments-then (write_result keys push (data_of v) (data_of (unwrap_or (read_at s level name) Null))) _ s.moments t
-    (λ d. moments-value level name (value_of d) s) e
-
-moments-without : (o : Option Value) (name : List ℕ) (keys : List (Option Key)) (s t : State)
-    → option_map_or (λ value. then_state (removed keys (data_of value)) (λ d. with_value 0 name (value_of d) s)) o
-    (Ok s) ≡ Ok t
-    → t.moments ≡ s.moments
-moments-without None name keys s t e = let same : s ≡ t = cc in ap (λ (u : State). u.moments) (sym same)
-moments-without (Some v) name keys s t e =
-    moments-then (removed keys (data_of v)) _ s.moments t (λ d. moments-value 0 name (value_of d) s) e
-
-moments-unset : (name : List ℕ) (keys : List (Option Key)) (s t : State) → unset name keys s ≡ Ok t
-    → t.moments ≡ s.moments
-moments-unset name [] s t e =
-    let less : Variables = without (variables_at s 0) name in
-    let same : with_variables 0 less s ≡ t = cc in ap (λ (u : State). u.moments) (sym same)
-    ∙ moments-own (owner_at s 0) less s
-moments-unset name (key ∷ keys) s t e = moments-without (read_at s 0 name) name (key ∷ keys) s t e
-
-moments-global : (name : List ℕ) (s : State) → (with_global name s).moments ≡ s.moments
-moments-global name s =
-    let g : State = record s { globals = with_null name s.globals } in
-    let more : Variables = with_slot (variables_at s 0) name Bound in
-    as-either (owner_at s 0 == 0) g (with_variables 0 more g) s.moments refl (moments-own (owner_at g 0) more g)
-
-moments-constant : (name : List ℕ) (v : Value) (s : State) → (with_constant name v s).moments ≡ s.moments
-moments-constant name v s = as-either _ _ _ s.moments refl refl
-
-moments-printed : (piece : List ℕ) (s t : State) → printed piece s ≡ Ok t → t.moments ≡ s.moments
-moments-printed piece s t e = ap (λ (u : State). u.moments) (sym (either-ok _ _ _ _ e))
-
-moments-entered : (frame : Frame) (s t : State) → entered frame s ≡ Ok t → t.moments ≡ s.moments
-moments-entered frame s t e = ap (λ (u : State). u.moments) (sym (either-ok _ _ _ _ e))
-
-moments-called : (file : ℕ) (f : Function) (values : List Value) (s t : State) → called file f values s ≡ Ok t
-    → t.moments ≡ s.moments
-moments-called file f values s t e = go (nat_le (length f.parameters) (length values)) e
-  where
-    go : (b : Bool) → (if b then entered (called_frame file f values) s else Err Arguments) ≡ Ok t
-        → t.moments ≡ s.moments
-    go true e = moments-entered (called_frame file f values) s t e
-    go false e = absurd (cc)
-
-moments-included : (bundle : Bundle) (file : ℕ) (s t : State) → included bundle file s ≡ Ok t → t.moments ≡ s.moments
-moments-included bundle file s t e =
-    go (nat_le (length s.frames + 1) frame_limit) (any_declared bundle s.declared (functions_of bundle file)) e
-  where
-    more : State
-    more = record s { declared = s.declared ++ functions_of bundle file }
-
-    go : (b c : Bool) → (if b then (if c then Err Redeclared else entered (included_frame file) more) else Err TooDeep)
-        ≡ Ok t → t.moments ≡ s.moments
-    go true true e = absurd (cc)
-    go true false e = moments-entered (included_frame file) more t e
-    go false c e = absurd (cc)
-
--- ---- runs
+pub beside : IsBeside moments_of
+beside = record { frames = λ fs s. refl; declared = λ ds s. refl }
 
 -- whatever is done at its moments, the state's number of moments rises by one at each, from so many on
 abbrev HasHad : Unit {0} → ℕ → State → Type 0
@@ -117,21 +23,7 @@ HasHad d n s = s.moments ≡ n
 abbrev pub IsSteady : {A : Type 0} → ℕ → Run A → Type 0
 IsSteady n r = Always HasHad tt n r
 
-kept : (bundle : Bundle) → IsKept HasHad bundle
-kept bundle = record {
-  down = λ d. d;
-  assigns = λ d n level name keys push v s t e p. moments-assigned level name keys push v s t e ∙ p;
-  unsets = λ d n name keys s t e p. moments-unset name keys s t e ∙ p;
-  binds = λ d n name s p. moments-global name s ∙ p;
-  defines = λ d n name v s p. moments-constant name v s ∙ p;
-  prints = λ d n piece s t e p. moments-printed piece s t e ∙ p;
-  calls = λ d n file f values s t within e p. moments-called file f values s t e ∙ p;
-  includes = λ d n file s t within e p. moments-included bundle file s t e ∙ p;
-  leaves = λ d n s p. p;
-}
-
 pub steady-program : (bundle : Bundle) (bound : ℕ) → IsSteady 0 (program_run bundle bound)
-steady-program bundle bound = Always-program HasHad bundle (kept bundle) bound tt refl
-
-pub steady-setting : (bundle : Bundle) (bound depth : ℕ) → IsKeptBy HasHad bundle (setting_of bundle bound depth)
-steady-setting bundle bound depth = Keeps-setting HasHad bundle (kept bundle) bound depth
+steady-program bundle bound =
+    Always-program HasHad bundle (kept-part HasHad moments_of apart beside (λ d n s t e p. e ∙ p)
+    (λ d n piece s t e p. ap moments_of (sym (either-ok _ _ _ _ e)) ∙ p) bundle) bound tt refl

@@ -3,6 +3,6 @@ pub mod Writes
 pub mod Trace
 pub mod Stops
 pub mod Pure
-pub mod Momentless
+pub mod Unwatched
 pub mod Whole
 pub mod inner

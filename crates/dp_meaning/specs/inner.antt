@@ -4,4 +4,3 @@ pub mod WriteAnswers
 pub mod Drive
 pub mod Evaluation
 pub mod Sizes
-pub mod MomentlessParts

@@ -6,7 +6,7 @@ use crate::outside::Outside;
 use crate::writes::NumberedWrite;
 use dp_actions::Halt;
 use dp_state::{MomentKind, Outcome, State};
-use dp_tree::Bundle;
+use dp_tree::{Boxed, Bundle};
 use std::alloc::Global;
 
 /// Writes, a bound, and the number of the moment at which the run stops.
@@ -37,7 +37,7 @@ impl Outside for Written<'_> {
         state.count();
         state.set_line(line);
         if number == self.stop {
-            let moment = moment_of(kind, state)?;
+            let moment = Boxed::new(self.alloc, moment_of(kind, state)?)?;
             write_all(self.alloc, self.bundle, self.writes, number, state)?;
             return Err(Halt::Stopped(moment));
         }

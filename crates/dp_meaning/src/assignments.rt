@@ -5,7 +5,8 @@
 use crate::evaluator::Evaluator;
 use crate::outside::Outside;
 use dp_actions::{
-    Halt, found_place, present, read_place, then_assign, then_combine, then_missing, then_step,
+    Halt, found_place, present, read_place, then_assign, then_combine, then_missing,
+    then_put_place, then_put_step, then_step,
 };
 use dp_state::State;
 use dp_tree::{BinaryOp, Expression, Order, Place, UnaryOp};
@@ -16,6 +17,8 @@ impl<O: Outside> Evaluator<'_, O> {
     ghost use Rattle.dp_meaning.specs.inner.Drive.{Evaluates};
     ghost use Rattle.dp_meaning.specs.inner.Evaluation.{goes_by};
     ghost use Rattle.dp_actions.specs.Expressions.{evaluation, place_run};
+    ghost use Rattle.dp_tree.specs.declared.tree.Order.{Order as AnyOrder};
+    ghost use Rattle.dp_actions.specs.Run.{and_then, given_up};
     ghost use Rattle.dp_actions.specs.Places.{assignment, coalescing, coalescing_under, compound, compound_under};
     ghost use Rattle.dp_actions.specs.Places.{isset_run, missing_at, step};
 
@@ -33,6 +36,29 @@ impl<O: Outside> Evaluator<'_, O> {
     {
         let indices = self.values(place.indices.as_slice(), state)?;
         then_assign(
+            self.alloc,
+            &place.name,
+            indices.as_slice(),
+            push,
+            self.expression(right, state),
+            state,
+        )
+    }
+
+    /// `place = right`, or `place[] = right`, whose value is given up
+    #[cycle(evaluate)]
+    pub(crate) fn put(
+        &self,
+        place: &Place,
+        right: &Expression,
+        push: bool,
+        state: &mut State,
+    ) -> Result<(), Halt>
+        ensures { Evaluates (O.rules self.now.outside.now) (and_then (assignment push (place_run place.now)
+            (evaluation right.now) (goes_by self.now) state.old) given_up) result state.new }
+    {
+        let indices = self.values(place.indices.as_slice(), state)?;
+        then_put_place(
             self.alloc,
             &place.name,
             indices.as_slice(),
@@ -133,6 +159,21 @@ impl<O: Outside> Evaluator<'_, O> {
             self.alloc,
             op,
             order,
+            &place.name,
+            self.values(place.indices.as_slice(), state),
+            state,
+        )
+    }
+
+    /// `++` and `--`, whose value is given up
+    #[cycle(evaluate)]
+    pub(crate) fn put_step(&self, op: UnaryOp, place: &Place, state: &mut State) -> Result<(), Halt>
+        ensures { (order : AnyOrder) → Evaluates (O.rules self.now.outside.now) (and_then (step op order
+            (place_run place.now) (goes_by self.now) state.old) given_up) result state.new }
+    {
+        then_put_step(
+            self.alloc,
+            op,
             &place.name,
             self.values(place.indices.as_slice(), state),
             state,

@@ -4,7 +4,9 @@
 
 use crate::evaluator::Evaluator;
 use crate::outside::Outside;
-use dp_actions::{Halt, Reading, constant_value, text_value, then_unary, variable_value};
+use dp_actions::{
+    Halt, Reading, constant_value, text_value, then_holds, then_unary, variable_value,
+};
 use dp_state::State;
 use dp_tree::{Expression, Inclusion};
 use dp_value::{Items, Value};
@@ -13,6 +15,8 @@ impl<O: Outside> Evaluator<'_, O> {
     ghost use Rattle.dp_meaning.specs.inner.Drive.{Evaluates};
     ghost use Rattle.dp_meaning.specs.inner.Evaluation.{goes_by};
     ghost use Rattle.dp_actions.specs.Expressions.{evaluations, expression_run, included};
+    ghost use Rattle.dp_actions.specs.Loops.{last_holds};
+    ghost use Rattle.dp_actions.specs.Run.{Done, and_then, given_up};
 
     /// The value of an expression.
     #[cycle(evaluate)]
@@ -87,6 +91,49 @@ impl<O: Outside> Evaluator<'_, O> {
             values.push(self.expression(e, state)?)?;
         }
         Ok(Items::of(values))
+    }
+
+    /// Whether the last of the values of a test holds; true if there is none.
+    #[cycle(evaluate)]
+    pub(crate) fn test(&self, all: &[Expression], state: &mut State) -> Result<bool, Halt>
+        ensures { Evaluates (O.rules self.now.outside.now) (and_then (evaluations all.now (goes_by self.now)
+            state.old) (λ values t. Done (last_holds values) t)) result state.new }
+    {
+        let mut holds = true;
+        for e in all {
+            holds = then_holds(self.expression(e, state))?;
+        }
+        Ok(holds)
+    }
+
+    /// Expressions whose values are given up, one after another.
+    #[cycle(evaluate)]
+    pub(crate) fn effects(&self, all: &[Expression], state: &mut State) -> Result<(), Halt>
+        ensures { Evaluates (O.rules self.now.outside.now) (and_then (evaluations all.now (goes_by self.now)
+            state.old) given_up) result state.new }
+    {
+        for e in all {
+            self.effect(e, state)?;
+        }
+        Ok(())
+    }
+
+    /// An expression whose value is given up: an assignment or a step makes none.
+    #[cycle(evaluate)]
+    pub(crate) fn effect(&self, e: &Expression, state: &mut State) -> Result<(), Halt>
+        ensures { Evaluates (O.rules self.now.outside.now) (and_then ((expression_run e.now).value (goes_by self.now)
+            state.old) given_up) result state.new }
+    {
+        match e {
+            Expression::Assign(place, right) => self.put(place, right.as_ref(), false, state),
+            Expression::Step(op, _, place) => self.put_step(*op, place, state),
+            Expression::Push(place, right) => self.put(place, right.as_ref(), true, state),
+            _ => {
+                let value = self.expression(e, state)?;
+                drop(value);
+                Ok(())
+            }
+        }
     }
 
     /// The value of an `include` or a `require`.

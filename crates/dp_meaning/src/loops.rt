@@ -4,7 +4,7 @@
 
 use crate::evaluator::Evaluator;
 use crate::outside::Outside;
-use dp_actions::{Halt, LoopStep, Signal, after_body, bind_entry, last_holds, then_holds};
+use dp_actions::{Halt, LoopStep, Signal, after_body, bind_entry, then_holds};
 use dp_state::{Outcome, State};
 use dp_tree::{Binding, Expression, Statement};
 use dp_value::Value;
@@ -34,9 +34,7 @@ impl<O: Outside> Evaluator<'_, O> {
     {
         for _turn in 0..left {
             self.place(line, state)?;
-            let values = self.values(tests, state)?;
-            let on = last_holds(values.as_slice());
-            drop(values);
+            let on = self.test(tests, state)?;
             if !on {
                 return Ok(Signal::Next);
             }
@@ -44,8 +42,7 @@ impl<O: Outside> Evaluator<'_, O> {
                 LoopStep::On => {}
                 LoopStep::Out(signal) => return Ok(signal),
             }
-            let done = self.values(after, state)?;
-            drop(done);
+            self.effects(after, state)?;
         }
         Err(Halt::Finished(Outcome::Bound))
     }
@@ -64,8 +61,7 @@ impl<O: Outside> Evaluator<'_, O> {
         ensures { Evaluates (O.rules self.now.outside.now) (for_part line before.now tests.now after.now
             (statement_run body.now) (goes_by self.now) state.old) result state.new }
     {
-        let done = self.values(before, state)?;
-        drop(done);
+        self.effects(before, state)?;
         self.turns(self.bound, line, tests, after, body, state)
     }
 

@@ -77,7 +77,7 @@ fn stop_at(halt: Halt, state: State) -> Result<Stop, Memory>
 {
     match halt {
         Halt::Finished(outcome) => Ok(Stop::Ended(outcome, state)),
-        Halt::Stopped(moment) => Ok(Stop::At(moment, state)),
+        Halt::Stopped(moment) => Ok(Stop::At(moment.into_inner(), state)),
         Halt::Memory => {
             drop(state);
             Err(Memory)

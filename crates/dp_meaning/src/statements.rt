@@ -5,7 +5,7 @@
 use crate::evaluator::Evaluator;
 use crate::outside::Outside;
 use dp_actions::{
-    Halt, Signal, bind_all, then_define, then_exit, then_holds, then_next, then_print, then_return,
+    Halt, Signal, bind_all, then_define, then_exit, then_holds, then_print, then_return,
     then_signal, unset_place,
 };
 use dp_state::{Outcome, State};
@@ -50,7 +50,7 @@ impl<O: Outside> Evaluator<'_, O> {
         match &statement.kind {
             StatementKind::Expression(e) => {
                 self.place(line, state)?;
-                then_next(self.expression(e, state))
+                then_signal(self.effect(e, state), Signal::Next)
             }
             StatementKind::Echo(operands) => {
                 self.place(line, state)?;

@@ -108,7 +108,7 @@ impl Whole<'_> {
     ghost use Rattle.std.specs.List.{list_all};
     ghost use Rattle.dp_actions.specs.AtOnce.{AtOnce};
     ghost use Rattle.dp_actions.specs.Expressions.{evaluation, evaluations};
-    ghost use Rattle.dp_meaning.specs.Momentless.{is_momentless};
+    ghost use Rattle.dp_analysis.specs.Still.{is_momentless};
     ghost use Rattle.dp_meaning.specs.Programs.{setting_of};
 
     /// The value of an expression in which no moment can come. It is evaluated at once.

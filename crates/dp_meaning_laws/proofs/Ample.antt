@@ -18,12 +18,12 @@ use Rattle.dp_actions.specs.Run.{Run, Done, Over, At, and_then}
 use Rattle.dp_actions.specs.Setting.{Setting}
 use Rattle.dp_meaning.specs.Trace.{Ended, Trace, moment_of, trace, with_moment}
 use Rattle.dp_meaning.specs.Writes.{Writes, alone, arrived, evaluated, evaluation_limit, evaluation_setting, left_by, one_write, recounted, written, written_by, writes_of}
-use Rattle.dp_meaning_laws.proofs.Alike.{Alike, AreAlike, Facts, IsKept}
-use Rattle.dp_meaning_laws.proofs.AlikeExpressions.{Keeps-expression}
-use Rattle.dp_meaning_laws.proofs.AlikePrograms.{Keeps-file, Keeps-function}
-use Rattle.dp_meaning_laws.proofs.Each.{Each, each-all}
-use Rattle.dp_meaning_laws.proofs.Frames.{files_in}
-use Rattle.dp_meaning_laws.proofs.OfBundle.{Anywhere, IsThere, Stack, facts, kept, nowhere, one-there, recounted-there, there-arrived, with_file, written-there}
+use Rattle.dp_meaning.proofs.Alike.{Alike, AreAlike, Facts, IsKept}
+use Rattle.dp_meaning.proofs.AlikeExpressions.{Keeps-expression}
+use Rattle.dp_meaning.proofs.AlikePrograms.{Keeps-file, Keeps-function}
+use Rattle.dp_meaning.proofs.Each.{Each, each-all}
+use Rattle.dp_meaning.proofs.Frames.{files_in}
+use Rattle.dp_meaning.proofs.OfBundle.{Anywhere, IsThere, Stack, facts, kept, nowhere, one-there, recounted-there, there-arrived, with_file, written-there}
 
 module _ (bundle : Bundle) where
   -- a state of the bundle stands somewhere
@@ -45,7 +45,7 @@ module _ (bundle : Bundle) where
     counting = facts bundle (Anywhere bundle) bound
 
     pub kept-counting : IsKept counting bundle
-    kept-counting = kept bundle (Anywhere bundle) bound (nowhere bundle)
+    kept-counting = kept bundle (Anywhere bundle) bound
 
     pub anywhere : (d : Stack) (lines : List ℕ) → Each (Anywhere bundle d) lines
     anywhere d lines = each-all (Anywhere bundle d) (λ line. tt) lines
@@ -77,11 +77,13 @@ module _ (bundle : Bundle) where
       turns_left = few;
       turns_right = less;
       call =
-          λ file f values found. Keeps-function counting bundle kept-counting d file (setting_of bundle m a)
+          λ file f values found. Keeps-function counting bundle kept-counting (nowhere bundle bound) d file
+          (setting_of bundle m a)
           (setting_of bundle k b)
           (ample m k few less a b (with_file file d) (more file a deep) (more file b low)) f values found;
       include =
-          λ file within. Keeps-file counting bundle kept-counting d file (setting_of bundle m a) (setting_of bundle k b)
+          λ file within. Keeps-file counting bundle kept-counting (nowhere bundle bound) d file (setting_of bundle m a)
+          (setting_of bundle k b)
           (ample m k few less a b (with_file file d) (more file a deep) (more file b low)) within;
     }
       where
@@ -95,18 +97,15 @@ module _ (bundle : Bundle) where
 
     same-alone : {A : Type 0} (r q : Run A) (d : Stack) (n : ℕ) → Alike counting d n r q → alone bound r ≡ alone bound q
     same-alone (Done a s) (Done b t) d n h = λ i. Some (h.1 i, h.2 i)
-    same-alone (Done a s) (Over o t) d n h = absurd h
-    same-alone (Done a s) (At kind line t go) d n h = absurd h
-    same-alone (Over o s) (Done b t) d n h = absurd h
     same-alone (Over o s) (Over p t) d n h = refl
     same-alone (Over o s) (At kind line t go) d n h = rw (past n s t h.4 h.1.moments h.2) refl
-    same-alone (At kind line s go) (Done b t) d n h = absurd h
     same-alone (At kind line s go) (Over o t) d n h = rw (past n s s refl h.1.moments h.2) refl
     same-alone {A} (At kind line s go) (At other there t on) d n h =
         ap (λ (o : Option (A × State)). if nat_lt s.moments bound then o else None)
         (same-alone (go (arrived line s)) (on (arrived line s)) d (n + 1)
         (h.2 _ (there-arrived bundle h.0 n line s h.1)))
         ∙ (λ i. alone bound (At (h.4 i) (h.5 i) (h.6 i) on))
+    same-alone r q d n h = absurd h
 
     module _ (v : Writes) (ws : List NumberedWrite)
         (same : (d : Stack) (n k : ℕ) (s : State) → IsThere bundle d n s
@@ -120,14 +119,10 @@ module _ (bundle : Bundle) where
           → trace bound v (and_then r next) ≡ trace bound w (and_then q next)
       unfolding and_then
       same-traces (Done a s) (Done b t) next tail d n h = tail a s ∙ (λ i. trace bound w (next (h.1 i) (h.2 i)))
-      same-traces (Done a s) (Over o t) next tail d n h = absurd h
-      same-traces (Done a s) (At kind line t go) next tail d n h = absurd h
-      same-traces (Over o s) (Done b t) next tail d n h = absurd h
       same-traces (Over o s) (Over p t) next tail d n h =
           λ i. record { moments = []; end = Ended (h.3 i); state = h.4 i }
       same-traces (Over o s) (At kind line t go) next tail d n h =
           rw (past n s t h.4 h.1.moments h.2) (λ i. record { moments = []; end = Ended (h.3 i); state = h.4 i })
-      same-traces (At kind line s go) (Done b t) next tail d n h = absurd h
       same-traces (At kind line s go) (Over o t) next tail d n h =
           rw (past n s s refl h.1.moments h.2) (λ i. record { moments = []; end = Ended (sym h.3 i); state = h.4 i })
       same-traces {A} {B} (At kind line s go) (At other here t on) next tail d n h =
@@ -154,6 +149,7 @@ module _ (bundle : Bundle) where
           there =
               subst (IsThere bundle h.0 (n + 1)) (sym equal) (written-there bundle ws h.0 (n + 1) (s.moments + 1)
               (arrived line s) before)
+      same-traces r q next tail d n h = absurd h
 
   -- ---- evaluations and writes
 

@@ -20,13 +20,13 @@ use Rattle.dp_actions.specs.Setting.{Setting}
 use Rattle.dp_actions.specs.Statements.{body_run, statement_run}
 use Rattle.dp_meaning.specs.Trace.{program_trace, trace}
 use Rattle.dp_meaning.specs.Writes.{Writes, evaluation_limit, writes_of}
-use Rattle.dp_meaning_laws.proofs.Alike.{Alike, AreAlike}
-use Rattle.dp_meaning_laws.proofs.AlikeCalls.{within-found}
-use Rattle.dp_meaning_laws.proofs.AlikeExpressions.{Keeps-evaluations, Keeps-expression}
-use Rattle.dp_meaning_laws.proofs.AlikeLoops.{Alike-do, Alike-turns}
-use Rattle.dp_meaning_laws.proofs.AlikeStatements.{Keeps-body, Keeps-statement, Still-statement}
+use Rattle.dp_meaning.proofs.Alike.{Alike, AreAlike}
+use Rattle.dp_meaning.proofs.AlikeCalls.{within-found}
+use Rattle.dp_meaning.proofs.AlikeExpressions.{Keeps-evaluations, Keeps-expression}
+use Rattle.dp_meaning.proofs.AlikeLoops.{Alike-do, Alike-turns}
+use Rattle.dp_meaning.proofs.AlikeStatements.{Keeps-body, Keeps-statement, Still-statement}
 use Rattle.dp_meaning_laws.proofs.Ample.{ample, ample-written, anywhere, counting, kept-counting, same-traces, there-is}
-use Rattle.dp_meaning_laws.proofs.OfBundle.{IsThere, Stack, main_file, there-opening}
+use Rattle.dp_meaning.proofs.OfBundle.{IsThere, Stack, main_file, there-opening}
 use Rattle.dp_actions.proofs.Runs.{and_then-Done}
 
 -- ---- in the midst of a run

@@ -17,11 +17,11 @@ use Rattle.dp_meaning_laws.specs.Coded.{HasCode}
 use Rattle.dp_actions.specs.Bodies.{statements_of}
 use Rattle.dp_meaning.specs.Trace.{moment_at, moment_of, program_trace}
 use Rattle.dp_meaning.specs.Writes.{arrived}
-use Rattle.dp_meaning_laws.proofs.Alike.{Stands}
-use Rattle.dp_meaning_laws.proofs.Each.{Each, each-left}
-use Rattle.dp_meaning_laws.proofs.Frames.{files_in, files-with_line}
-use Rattle.dp_meaning_laws.proofs.OfBundle.{HaveLines, Stack, facts, main_file, with_file}
-use Rattle.dp_meaning_laws.proofs.Traces.{Comes, along-program}
+use Rattle.dp_meaning.proofs.Alike.{HaveLines, Stands}
+use Rattle.dp_meaning.proofs.Each.{Each, each-left}
+use Rattle.dp_meaning.proofs.Frames.{files_in, files-with_line}
+use Rattle.dp_meaning.proofs.OfBundle.{Stack, facts, main_file, with_file}
+use Rattle.dp_meaning.proofs.Traces.{Comes, along-program}
 
 -- ---- the file and the line of the top frame
 
@@ -96,8 +96,8 @@ module _ (bundle : Bundle) where
   coded-lines d file f e at =
       each-own (IsCoded d) (file_lines f.tree) (λ line has. (f, ap (slice_get bundle.files) at ∙ e, has))
 
-  coded : HaveLines bundle IsCoded
-  coded d file f e = coded-lines (with_file file d) file f e (last-push d.lowest d.above file)
+  coded : (bound : ℕ) → HaveLines (facts bundle IsCoded bound) bundle
+  coded bound d file f e = coded-lines (with_file file d) file f e (last-push d.lowest d.above file)
 
   coded-main : Each (IsCoded main_file) (body_lines (statements_of bundle 0))
   coded-main = go (slice_get bundle.files 0) refl
@@ -137,4 +137,4 @@ module _ (bundle : Bundle) where
       → p.0.kind ≡ Place → 0 < length bundle.files → HasCode bundle p.0.file p.0.line
   places-coded bound zero ws p e is some = absurd (cc)
   places-coded bound (suc k) ws p e is some =
-      comes-on bound (0 + k) p ((along-program bundle IsCoded bound ws coded coded-main some).moments k p e) is
+      comes-on bound (0 + k) p ((along-program bundle IsCoded bound ws (coded bound) coded-main some).moments k p e) is

@@ -4,15 +4,3 @@ pub mod CodedMoments
 pub mod Ample
 pub mod AmpleLaws
 pub mod Answers
-pub mod Alike
-pub mod AlikeCalls
-pub mod AlikeExpressions
-pub mod AlikeLoops
-pub mod AlikePlaces
-pub mod AlikePrograms
-pub mod AlikeStatements
-pub mod Each
-pub mod Frames
-pub mod OfBundle
-pub mod Steady
-pub mod Traces

@@ -2,7 +2,6 @@
 -- bound where that is reached.
 use Rattle.std.proofs.Common.{◌≡◌, ℕ, zero, suc, ◌+◌, ◌<◌, ◌≤◌, List, [], ◌∷◌, length, Option, Some, None, refl, sym, ap, ◌∙◌, subst, arith}
 use Rattle.std.proofs.lemmas.List.{length-map}
-use Rattle.std.specs.Option.{option_map_or}
 use Rattle.std.specs.Prelude.{option_map, slice_get}
 use Rattle.dp_tree.specs.declared.bundle.Bundle.{Bundle}
 use Rattle.dp_tree.specs.declared.bundle.BundleFile.{BundleFile}
@@ -10,30 +9,20 @@ use Rattle.dp_state.specs.declared.moments.Moment.{Moment}
 use Rattle.dp_state.specs.declared.moments.Outcome.TheVariants as way
 use Rattle.dp_state.specs.declared.state.Frame.{Frame}
 use Rattle.dp_state.specs.declared.state.State.{State}
-use Rattle.dp_state.specs.States.{frame_limit, opening}
+use Rattle.dp_state.specs.States.{opening}
 use Rattle.dp_actions.specs.declared.signal.Signal.{Signal}
-use Rattle.dp_actions.specs.declared.signal.Signal.TheVariants.{Next}
 use Rattle.dp_meaning.specs.declared.writes.NumberedWrite.{NumberedWrite}
-use Rattle.dp_meaning.specs.Programs.{program_run, setting_of}
-use Rattle.dp_actions.specs.Statements.{body_run}
-use Rattle.dp_meaning.specs.Trace.{Gave, Trace, moment_at, now, outcome, outcome_of, program_trace, trace}
+use Rattle.dp_meaning.specs.Trace.{Trace, moment_at, now, outcome, program_trace}
 use Rattle.dp_meaning.specs.Writes.{written, writes_of}
 use Rattle.dp_meaning_laws.specs.Limits.{CanStand}
-use Rattle.dp_meaning_laws.proofs.Alike.{CanEnd}
-use Rattle.dp_meaning_laws.proofs.AlikeCalls.{within-found}
-use Rattle.dp_meaning_laws.proofs.OfBundle.{Anywhere, IsThere, Stack, main_file, there-opening}
-use Rattle.dp_meaning_laws.proofs.Traces.{Comes, after-writes, arrived-there, program-along}
+use Rattle.dp_meaning.proofs.Alike.{CanEnd}
+use Rattle.dp_meaning.proofs.AlikeCalls.{within-found}
+use Rattle.dp_meaning.proofs.OfBundle.{Anywhere, IsThere, Stack, main_file, there-opening}
+use Rattle.dp_meaning.proofs.Traces.{Comes, after-writes, arrived-there, can-end, nothing, program-along}
 
 module _ (bundle : Bundle) (bound : ℕ) (ws : List NumberedWrite) where
   abbrev whole : Trace Signal
   whole = program_trace bundle bound ws
-
-  -- a bundle without files has nothing to run
-  nothing : slice_get bundle.files 0 ≡ None → whole ≡ record { moments = []; end = Gave Next; state = opening bundle }
-  unfolding program_trace program_run
-  nothing e =
-      ap (λ (o : Option BundleFile). trace bound (writes_of bundle ws) (body_run (option_map_or (λ f. f.tree.body) o [])
-      (setting_of bundle bound frame_limit) (opening bundle))) e
 
   -- a moment comes where there are files alone
   pub has-files : (n : ℕ) (p : Moment × State) → moment_at whole n ≡ Some p → 0 < length bundle.files
@@ -42,8 +31,8 @@ module _ (bundle : Bundle) (bound : ℕ) (ws : List NumberedWrite) where
     where
       go : (o : Option BundleFile) → slice_get bundle.files 0 ≡ o → 0 < length bundle.files
       go None none =
-          let no : slice_get [] k ≡ Some p = ap (λ (t : Trace Signal). slice_get t.moments k) (sym (nothing none))
-          ∙ e in absurd (cc)
+          let no : slice_get [] k ≡ Some p =
+          ap (λ (t : Trace Signal). slice_get t.moments k) (sym (nothing bundle bound ws none)) ∙ e in absurd (cc)
       go (Some f) is = within-found bundle.files 0 f is
 
   comes : (k : ℕ) (p : Moment × State) → moment_at whole (suc k) ≡ Some p
@@ -62,25 +51,6 @@ module _ (bundle : Bundle) (bound : ℕ) (ws : List NumberedWrite) where
         omega (arith, c.within),
       )
 
-  -- so many moments has the state at the end had, and the bound ends it where there are as many
-  IsCounted : Trace Signal → Type 0
-  IsCounted t = (t.state.moments ≡ length t.moments) × CanEnd bound (length t.moments) (outcome_of t.end)
-
-  counted : IsCounted whole
-  unfolding IsCounted
-  counted = go (slice_get bundle.files 0) refl
-    where
-      go : (o : Option BundleFile) → slice_get bundle.files 0 ≡ o → IsCounted whole
-      go None none = subst IsCounted (sym (nothing none)) (refl, tt)
-      go (Some f) is =
-          let all = program-along bundle bound ws (within-found bundle.files 0 f is) in
-          let same : 0 + length whole.moments ≡ length whole.moments = omega arith in
-          (all.there.moments ∙ same, subst (λ n. CanEnd bound n (outcome_of whole.end)) same all.ends)
-
-  pub counted-at-end : whole.state.moments ≡ length whole.moments
-  unfolding IsCounted
-  counted-at-end = counted.0
-
   past_last : (ps : List (Moment × State)) (k : ℕ) → length ps ≡ suc k
       → (p : Moment × State) × (slice_get ps k ≡ Some p)
   past_last [] k e = absurd (omega arith)
@@ -95,10 +65,9 @@ module _ (bundle : Bundle) (bound : ℕ) (ws : List NumberedWrite) where
       go (suc k) e = let p = past_last whole.moments k e in (numbered k p.0 p.1).2
 
   pub bound-reached : outcome bundle bound ws ≡ way.Bound → length whole.moments ≡ bound
-  unfolding IsCounted
   bound-reached is =
-      let reached : CanEnd bound (length whole.moments) way.Bound = subst
-      (CanEnd bound (length whole.moments)) is counted.1 in
+      let reached : CanEnd bound (length whole.moments) way.Bound =
+      subst (CanEnd bound (length whole.moments)) is (can-end bundle bound ws) in
       omega (arith, few, reached)
 
   -- ---- states

@@ -1,126 +1,43 @@
 -- What a program has written stays written: along its moments, and by writes, the output only grows.
-use Rattle.std.proofs.Common.{◌≡◌, ◌⊎◌, ℕ, zero, suc, ◌+◌, ◌-◌, ◌<◌, ◌≤◌, Bool, true, false, if◌then◌else◌, List, [], ◌∷◌, ◌++◌, length, Option, Some, None, is_some, Result, Ok, Err, refl, sym, ap, subst, ◌∙◌, inl, inr, ⊎_elim, arith, append_assoc, append-nil}
-use Rattle.std.specs.Prelude.{◌==◌, nat_eq, nat_le, nat_lt, unwrap_or, slice_get}
-use Rattle.std.specs.Option.{option_map_or}
+use Rattle.std.proofs.Common.{◌≡◌, ◌⊎◌, ℕ, zero, suc, ◌+◌, ◌<◌, ◌≤◌, Bool, true, false, if◌then◌else◌, List, [], ◌∷◌, ◌++◌, length, Some, Ok, refl, sym, ap, subst, ◌∙◌, inl, inr, ⊎_elim, arith, append_assoc, append-nil}
+use Rattle.std.specs.Prelude.{nat_lt, slice_get}
 use Rattle.std.proofs.lemmas.Bool.{cases_lt}
 use Rattle.std.proofs.lemmas.Option.{slice_get_within}
 use Rattle.dp_tree.specs.declared.bundle.Bundle.{Bundle}
-use Rattle.dp_tree.specs.Files.{functions_of}
-use Rattle.dp_value.specs.declared.errors.WriteError.{WriteError}
-use Rattle.dp_value.specs.declared.key.Key.{Key}
-use Rattle.dp_value.specs.declared.value.Value.{Value}
-use Rattle.dp_value.specs.declared.value.Value.TheVariants.{Null}
-use Rattle.dp_value.specs.Data.{Data}
-use Rattle.dp_value.specs.Entry.{write_result, removed}
-use Rattle.dp_value.specs.Value.{data_of, value_of}
-use Rattle.dp_state.specs.declared.moments.FatalKind.{FatalKind}
-use Rattle.dp_state.specs.declared.moments.FatalKind.TheVariants.{Arguments, Redeclared, TooDeep}
 use Rattle.dp_state.specs.declared.moments.Moment.{Moment}
-use Rattle.dp_state.specs.declared.moments.Path.{Path}
 use Rattle.dp_state.specs.declared.moments.Outcome.TheVariants.{Bound as OutOfBound}
-use Rattle.dp_state.specs.declared.state.Frame.{Frame}
 use Rattle.dp_state.specs.declared.state.State.{State}
-use Rattle.dp_state.specs.declared.vars.Slot.TheVariants.{Bound}
-use Rattle.dp_state.specs.Constants.{constant, with_constant}
-use Rattle.dp_state.specs.Functions.{called, called_frame, included, included_frame, any_declared}
-use Rattle.dp_state.specs.Places.{assigned, given_keys, unset, then_state, with_global, with_null, with_own, with_value, with_variables}
-use Rattle.dp_state.specs.States.{entered, frame_limit, owner_at, printed, read_at, variables_at}
-use Rattle.dp_state.specs.Variables.{Variables, with_slot, without}
+use Rattle.dp_state.specs.Places.{given_keys}
+use Rattle.dp_state.specs.States.{printed}
 use Rattle.dp_tree.specs.declared.tree.Expression.{Expression}
-use Rattle.dp_tree.specs.declared.tree.Function.{Function}
 use Rattle.dp_meaning.specs.Programs.{program_run}
 use Rattle.dp_actions.specs.Run.{Run, Done, Over, At}
 use Rattle.dp_meaning.specs.declared.writes.NumberedWrite.{NumberedWrite}
 use Rattle.dp_meaning.specs.declared.writes.Write.{Write}
 use Rattle.dp_meaning.specs.declared.writes.Write.TheVariants.{Place, Evaluate}
-use Rattle.dp_meaning.specs.declared.writes.WriteFault.{WriteFault}
-use Rattle.dp_meaning.specs.declared.writes.WriteFault.TheVariants.{NoFrame}
-use Rattle.dp_actions.specs.Expressions.{evaluation}
 use Rattle.dp_meaning.specs.Trace.{Trace, Ended, moment_of, program_trace, trace, with_moment}
-use Rattle.dp_meaning.specs.Writes.{alone, arrived, evaluated, evaluation_limit, evaluation_setting, in_context, left_by, one_write, or_unchanged, place_or_fault, recounted, with_place, written, written_by, writes_of}
-use Rattle.dp_meaning.proofs.Always.{Always, IsKept}
-use Rattle.dp_meaning.proofs.AlwaysExpressions.{Keeps-expression}
-use Rattle.dp_meaning.proofs.AlwaysPrograms.{Always-program, Keeps-setting}
+use Rattle.dp_meaning.specs.Writes.{arrived, evaluated, evaluation_setting, left_by, one_write, written, written_by, writes_of}
+use Rattle.dp_meaning.proofs.Alike.{Facts, IsKept, all-lines}
+use Rattle.dp_meaning.proofs.Always.{Always, Always-program, kept-part, of_states}
+use Rattle.dp_meaning.proofs.Apart.{IsApart, IsBeside, either-ok, part-assigned}
 use Rattle.dp_meaning.proofs.Steady.{IsSteady, steady-program}
 use Rattle.dp_meaning.proofs.WrittenMoments.{moments-written}
+use Rattle.dp_meaning.proofs.WrittenStates.{evaluation-leaves, place-leaves, writes-keep}
 use Rattle.dp_conversation.specs.Growth.{Begins}
 
 -- ---- steps
 
-either-state : (b : Bool) (s t : State) (o : List ℕ) → s.output ≡ o → t.output ≡ o → (if b then s else t).output ≡ o
-either-state true s t o h k = h
-either-state false s t o h k = k
+abbrev output_of : State → List ℕ
+output_of s = s.output
 
-either-ok : (b : Bool) (s t : State) (kind : FatalKind) → (if b then Ok s else Err kind) ≡ Ok t → s ≡ t
-either-ok true s t kind e = cc
-either-ok false s t kind e = absurd (cc)
+apart : IsApart output_of
+apart = record { globals = λ vs s. refl; own = λ at vs s. refl; constants = λ cs s. refl }
 
-output-own : (at : ℕ) (variables : Variables) (s : State) → (with_own at variables s).output ≡ s.output
-output-own at variables s = either-state _ _ _ s.output refl refl
-
-output-value : (level : ℕ) (name : List ℕ) (v : Value) (s : State) → (with_value level name v s).output ≡ s.output
-output-value level name v s = either-state _ _ _ s.output refl (output-own (owner_at s level) _ s)
-
-output-then : (r : Result Data WriteError) (f : Data → State) (o : List ℕ) (t : State) → ((d : Data) → (f d).output ≡ o)
-    → then_state r f ≡ Ok t → t.output ≡ o
-output-then (Ok d) f o t h e = let same : f d ≡ t = cc in ap (λ (u : State). u.output) (sym same) ∙ h d
-output-then (Err w) f o t h e = absurd (cc)
-
-output-assigned : (level : ℕ) (name : List ℕ) (keys : List (Option Key)) (push : Bool) (v : Value) (s t : State)
-    → assigned level name keys push v s ≡ Ok t → t.output ≡ s.output
-output-assigned level name keys push v s t e =
-    output-then (write_result keys push (data_of v) (data_of (unwrap_or (read_at s level name) Null))) _ s.output t
-    (λ d. output-value level name (value_of d) s) e
-
-output-without : (o : Option Value) (name : List ℕ) (keys : List (Option Key)) (s t : State)
-    → option_map_or (λ value. then_state (removed keys (data_of value)) (λ d. with_value 0 name (value_of d) s)) o
-    (Ok s) ≡ Ok t → t.output ≡ s.output
-output-without None name keys s t e = let same : s ≡ t = cc in ap (λ (u : State). u.output) (sym same)
-output-without (Some v) name keys s t e =
-    output-then (removed keys (data_of v)) _ s.output t (λ d. output-value 0 name (value_of d) s) e
-
-output-unset : (name : List ℕ) (keys : List (Option Key)) (s t : State) → unset name keys s ≡ Ok t → t.output ≡ s.output
-output-unset name [] s t e =
-    let less : Variables = without (variables_at s 0) name in
-    let same : with_variables 0 less s ≡ t = cc in ap (λ (u : State). u.output) (sym same)
-    ∙ output-own (owner_at s 0) less s
-output-unset name (key ∷ keys) s t e = output-without (read_at s 0 name) name (key ∷ keys) s t e
-
-output-global : (name : List ℕ) (s : State) → (with_global name s).output ≡ s.output
-output-global name s =
-    let g : State = record s { globals = with_null name s.globals } in
-    let more : Variables = with_slot (variables_at s 0) name Bound in
-    either-state (owner_at s 0 == 0) g (with_variables 0 more g) s.output refl (output-own (owner_at g 0) more g)
-
-output-constant : (name : List ℕ) (v : Value) (s : State) → (with_constant name v s).output ≡ s.output
-output-constant name v s = either-state (is_some (constant name s)) s _ s.output refl refl
+beside : IsBeside output_of
+beside = record { frames = λ fs s. refl; declared = λ ds s. refl }
 
 output-printed : (piece : List ℕ) (s t : State) → printed piece s ≡ Ok t → t.output ≡ s.output ++ piece
-output-printed piece s t e = ap (λ (u : State). u.output) (sym (either-ok _ _ _ _ e))
-
-output-entered : (frame : Frame) (s t : State) → entered frame s ≡ Ok t → t.output ≡ s.output
-output-entered frame s t e = ap (λ (u : State). u.output) (sym (either-ok _ _ _ _ e))
-
-output-called : (file : ℕ) (f : Function) (values : List Value) (s t : State) → called file f values s ≡ Ok t
-    → t.output ≡ s.output
-output-called file f values s t e = go (nat_le (length f.parameters) (length values)) e
-  where
-    go : (b : Bool) → (if b then entered (called_frame file f values) s else Err Arguments) ≡ Ok t → t.output ≡ s.output
-    go true e = output-entered (called_frame file f values) s t e
-    go false e = absurd (cc)
-
-output-included : (bundle : Bundle) (file : ℕ) (s t : State) → included bundle file s ≡ Ok t → t.output ≡ s.output
-output-included bundle file s t e =
-    go (nat_le (length s.frames + 1) frame_limit) (any_declared bundle s.declared (functions_of bundle file)) e
-  where
-    more : State
-    more = record s { declared = s.declared ++ functions_of bundle file }
-
-    go : (b c : Bool) → (if b then (if c then Err Redeclared else entered (included_frame file) more) else Err TooDeep)
-        ≡ Ok t → t.output ≡ s.output
-    go true true e = absurd (cc)
-    go true false e = output-entered (included_frame file) more t e
-    go false c e = absurd (cc)
+output-printed piece s t e = ap output_of (sym (either-ok _ _ _ _ e))
 
 -- ---- one list begins another
 
@@ -140,104 +57,34 @@ module _ (o : List ℕ) where
   abbrev Said : Unit {0} → ℕ → State → Type 0
   Said d n s = Begins o s.output
 
-  on : (n : ℕ) (s t : State) → t.output ≡ s.output → Said tt n s → Said tt n t
-  on n s t e said = subst (Begins o) (sym e) said
-
-  keeps : (bundle : Bundle) → IsKept Said bundle
-  keeps bundle = record {
-    down = λ d. d;
-    assigns = λ d n level name keys push v s t e p. on n s t (output-assigned level name keys push v s t e) p;
-    unsets = λ d n name keys s t e p. on n s t (output-unset name keys s t e) p;
-    binds = λ d n name s p. on n s (with_global name s) (output-global name s) p;
-    defines = λ d n name v s p. on n s (with_constant name v s) (output-constant name v s) p;
-    prints = λ d n piece s t e p. subst (Begins o) (sym (output-printed piece s t e)) (begins_more o s.output piece p);
-    calls = λ d n file f values s t within e p. on n s t (output-called file f values s t e) p;
-    includes = λ d n file s t within e p. on n s t (output-included bundle file s t e) p;
-    leaves = λ d n s p. p;
-  }
-
-  alone_says : {A : Type 0} (bound : ℕ) (r : Run A) (n : ℕ) → Always Said tt n r → (end : A × State)
-      → alone bound r ≡ Some end → Begins o end.1.output
-  alone_says bound (Done a s) n h end e =
-      let same : (a, s) ≡ end = cc in subst (λ (p : _ × State). Begins o p.1.output) same h
-  alone_says bound (Over outcome s) n h end e = absurd cc
-  alone_says {A} bound (At kind line s go) n h end e =
-      cases (nat_lt s.moments bound) (alone_says bound (go (arrived line s)) (n + 1) (h.2 (arrived line s) h.1) end) e
-    where
-      cases : (b : Bool) → (alone bound (go (arrived line s)) ≡ Some end → Begins o end.1.output)
-          → (if b then alone bound (go (arrived line s)) else None) ≡ Some end → Begins o end.1.output
-      cases true later f = later f
-      cases false later f = absurd cc
-
-left_says : (o : List ℕ) (s : State) (a : Option (Value × State)) → Begins o s.output
-    → ((end : Value × State) → a ≡ Some end → Begins o end.1.output)
-    → Begins o (left_by s (recounted s.moments a)).output
-left_says o s None said h = said
-left_says o s (Some end) said h = h end refl
+  keeps : (bundle : Bundle) → IsKept (of_states Said) bundle
+  keeps bundle =
+      kept-part Said output_of apart beside (λ d n s t e said. subst (Begins o) (sym e) said)
+      (λ d n piece s t e p. subst (Begins o) (sym (output-printed piece s t e)) (begins_more o s.output piece p)) bundle
 
 evaluation_adds : (bundle : Bundle) (e : Expression) (s : State)
     → Begins s.output (left_by s (evaluated (evaluation_setting bundle) e s)).output
 evaluation_adds bundle e s =
-    let o = s.output in
-    let start : State = record s { moments = 0 } in
-    let good = Keeps-setting (Said o) bundle (keeps o bundle) evaluation_limit frame_limit in
-    let always = (Keeps-expression (Said o) bundle (keeps o bundle) e).0 (evaluation_setting bundle) good tt 0 start
-    (begins_same o) in
-    left_says o s (alone evaluation_limit (evaluation e (evaluation_setting bundle) start)) (begins_same o)
-    (λ end is. alone_says o evaluation_limit (evaluation e (evaluation_setting bundle) start) 0 always end is)
-
--- a place write prints nothing
-abbrev HasOutput : List ℕ → Result State WriteFault → Type 0
-HasOutput o (Ok t) = t.output ≡ o
-HasOutput o (Err fault) = Unit {0}
-
-output-placed : (r : Result State FatalKind) (o : List ℕ) → ((t : State) → r ≡ Ok t → t.output ≡ o)
-    → HasOutput o (place_or_fault r)
-output-placed (Ok t) o h = h t refl
-output-placed (Err kind) o h = tt
-
-output-context : (context level : ℕ) (path : Path) (v : Value) (s : State)
-    → HasOutput s.output (in_context context level path v s)
-output-context zero level path v s =
-    output-placed _ s.output (λ t e. output-assigned level path.name (given_keys path.keys) false v s t e)
-output-context (suc zero) level path v s =
-    output-placed _ s.output (λ t e. output-assigned (length s.frames - 1) path.name
-    (given_keys path.keys) false v s t e)
-output-context (suc (suc context)) level path v s = tt
-
-output-framed : (b : Bool) (r : Result State WriteFault) (o : List ℕ) → HasOutput o r
-    → HasOutput o (if b then r else Err NoFrame)
-output-framed true r o h = h
-output-framed false r o h = tt
-
-output-unchanged : (r : Result State WriteFault) (s : State) → HasOutput s.output r
-    → (or_unchanged s r).output ≡ s.output
-output-unchanged (Ok t) s h = h
-output-unchanged (Err fault) s h = refl
+    let o : List ℕ = s.output in
+    let f : Facts (Unit {0}) = of_states (Said o) in
+    evaluation-leaves f bundle (keeps o bundle) (all-lines f bundle (λ d line. tt)) (λ d n line s p. p) (omega arith)
+    (λ t. Begins o t.output) tt 0 e s (begins_same o) (begins_same o) (λ m t p. p)
 
 -- one write only adds to the output
 pub write_adds : (bundle : Bundle) (w : Write) (s : State)
     → Begins s.output (one_write (evaluation_setting bundle) w s).output
 write_adds bundle (Place level context path v) s =
-    subst (Begins s.output)
-    (sym (output-unchanged (with_place level context path v s) s
-    (output-framed (nat_lt level (length s.frames)) _ s.output (output-context context level path v s))))
-    (begins_same s.output)
+    place-leaves (λ t. Begins s.output t.output) s (begins_same s.output) (λ level path v t e.
+    subst (Begins s.output) (sym (part-assigned output_of apart level path.name (given_keys path.keys) false v s t e))
+    (begins_same s.output)) level context path v
 write_adds bundle (Evaluate e) s = evaluation_adds bundle e s
 
 -- and so do the writes of a number
 pub writes_add : (bundle : Bundle) (ws : List NumberedWrite) (n : ℕ) (s : State)
     → Begins s.output (written_by (evaluation_setting bundle) ws n s).output
-writes_add bundle [] n s = begins_same s.output
-writes_add bundle (w ∷ ws) n s = by (nat_eq w.moment n) (writes_add bundle ws n) where
-  by : (b : Bool) → ((t : State) → Begins t.output (written_by (evaluation_setting bundle) ws n t).output)
-      → Begins s.output (written_by (evaluation_setting bundle) ws n
-      (if b then one_write (evaluation_setting bundle) w.write s else s)).output
-  by true later =
-      let t = one_write (evaluation_setting bundle) w.write s in
-      begins_all s.output t.output (written_by (evaluation_setting bundle) ws n t).output (write_adds bundle w.write s)
-      (later t)
-  by false later = later s
+writes_add bundle ws n s =
+    writes-keep (evaluation_setting bundle) (λ t. Begins s.output t.output) (λ w t p.
+    begins_all s.output t.output _ p (write_adds bundle w t)) ws n s (begins_same s.output)
 
 -- ---- from the writes of the i-th moment on, the output begins with this
 
@@ -253,18 +100,10 @@ module _ (i : ℕ) (o : List ℕ) where
   carried_on n piece s t e (inl before) = inl before
   carried_on n piece s t e (inr said) = inr (subst (Begins o) (sym e) (begins_more o s.output piece said))
 
-  kept : (bundle : Bundle) → IsKept HasSaid bundle
-  kept bundle = record {
-    down = λ d. d;
-    assigns = λ d n level name keys push v s t e p. carried n s t (output-assigned level name keys push v s t e) p;
-    unsets = λ d n name keys s t e p. carried n s t (output-unset name keys s t e) p;
-    binds = λ d n name s p. carried n s (with_global name s) (output-global name s) p;
-    defines = λ d n name v s p. carried n s (with_constant name v s) (output-constant name v s) p;
-    prints = λ d n piece s t e p. carried_on n piece s t (output-printed piece s t e) p;
-    calls = λ d n file f values s t within e p. carried n s t (output-called file f values s t e) p;
-    includes = λ d n file s t within e p. carried n s t (output-included bundle file s t e) p;
-    leaves = λ d n s p. p;
-  }
+  kept : (bundle : Bundle) → IsKept (of_states HasSaid) bundle
+  kept bundle =
+      kept-part HasSaid output_of apart beside (λ d n s t e p. carried n s t e p)
+      (λ d n piece s t e p. carried_on n piece s t (output-printed piece s t e) p) bundle
 
   said_program : (bundle : Bundle) (bound : ℕ) → 0 < i → Always HasSaid tt 0 (program_run bundle bound)
   said_program bundle bound some = Always-program HasSaid bundle (kept bundle) bound tt (inl some)

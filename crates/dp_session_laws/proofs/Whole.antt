@@ -9,7 +9,7 @@ use Rattle.std.proofs.lemmas.Bool.{leb-true}
 use Rattle.std.proofs.lemmas.Fmt.{length-decimal-le}
 use Rattle.dp_value.specs.Decimals.{decimal_in, is_decimal}
 use Rattle.dp_tree.specs.declared.bundle.Bundle.{Bundle}
-use Rattle.dp_breakpoint_commands.specs.Commands.{breakpoint_response}
+use Rattle.dp_break.specs.Commands.{breakpoint_response}
 use Rattle.dp_command.specs.declared.command.BreakpointAction.TheVariants.{Get, Remove}
 use Rattle.dp_packet.specs.declared.error_codes.ErrorCode.{ErrorCode}
 use Rattle.dp_packet.specs.declared.error_codes.ErrorCode.TheVariants.{UnimplementedCommand}

@@ -1,4 +1,5 @@
-use Rattle.dp_meaning_laws.proofs.Whole.{bound-reached, counted-at-end, numbered}
+use Rattle.dp_meaning.proofs.Traces.{counted-at-end}
+use Rattle.dp_meaning_laws.proofs.Whole.{bound-reached, numbered}
 use Rattle.dp_meaning_laws.proofs.laws.moments_are_numbered.Goals as goal
 
 pub returns : goal.returns

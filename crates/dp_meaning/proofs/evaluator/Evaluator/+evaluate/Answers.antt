@@ -9,13 +9,18 @@ use Rattle.dp_meaning.specs.inner.Evaluation.{goes_by}
 use Rattle.dp_actions.specs.Calls.{callee_of}
 use Rattle.dp_actions.specs.Expressions.{evaluations}
 use Rattle.dp_meaning.specs.inner.Sizes.{arm_size, body_size, definitions_size, expressions_size, statement_size}
+use Rattle.dp_actions.specs.declared.signal.Signal.TheVariants.{Next}
 use Rattle.dp_actions.specs.Effects.{print_run}
+use Rattle.dp_actions.specs.Run.{Done, given_up}
+use Rattle.dp_actions.specs.Statements.{for_turns, statement_run}
+use Rattle.dp_actions.specs.Values.{holds}
 use Rattle.dp_meaning.proofs.CallLaws.{next-done, suc-call, suc-include, zero-call, zero-include}
 use Rattle.dp_meaning.proofs.ByEvaluator.{by-arm, by-bundle, by-call, by-do, by-file, by-for, by-turns}
-use Rattle.dp_meaning.proofs.Drives.{at_once, breaks_off, ends, exits, gives, goes_on, joined_off, joined_on, passes, stops_at, tested_off, tested_on, then_at, then_on}
+use Rattle.dp_meaning.proofs.Drives.{at_once, breaks_off, ends, exits, gives, goes_on, joined_off, joined_on, passes, stops_at, tested_off, tested_on, tested_then, then_at, then_on}
 use Rattle.dp_actions.proofs.Layers.{found-plain, run-Array, run-Assign, run-Bool, run-Call, run-Chain, run-Coalesce, run-CoalesceAssign, run-Compound, run-Conditional, run-Constant, run-Include, run-Index, run-Isset, run-item-None, run-item-Some, run-link, run-Null, run-Number, run-place, run-Push, run-Step, run-Text, run-Unary, run-Variable}
 use Rattle.dp_actions.proofs.StatementLayers.{kind-Block, kind-Break, kind-Constants, kind-Continue, kind-DoWhile, kind-Echo, kind-Empty, kind-Exit, kind-Expression, kind-For, kind-Foreach, kind-Global, kind-If, kind-Return, kind-Unset, kind-While, run-arm, run-statement}
 use Rattle.dp_meaning.proofs.ListLaws.{constant_off, constant_on, front, front-at, place_off, place_on, values-all, values-break, values-first, values-more}
+use Rattle.dp_meaning.proofs.GivenUp.{assignment-given_up, step-given_up, test-all, test-break, test-first, test-more, without-all, without-break, without-more}
 use Rattle.dp_meaning.proofs.LoopLaws.{bind-breaks, body-breaks, body-out, do-body-breaks, do-body-out, do-end, do-goes-on, do-stops, do-test-breaks, each-body-breaks, each-goes-on, each-out, each-stops, next-breaks, test-breaks, turn-goes-on, turn-stops, turns-end}
 use Rattle.dp_meaning.proofs.SizeLaws.{arms_size, frame-callee, frame-file, frame_less, places_size, size-arm, size-Block, size-Constants, size-definition, size-DoWhile, size-Echo, size-Exit, size-Expression, size-For, size-Foreach, size-If, size-in, size-Return, size-some, size-Unset, size-While, sized}
 use Rattle.dp_actions.proofs.Tails.{kept-none, kept-some, present-none, present-some}
@@ -112,6 +117,47 @@ values-loop-e-preserved g t c = λ x u e. c.loop-e.invariant x u (rw (front _ c.
 pub values-returns : goal.values-returns
 values-returns g t c = c.loop-e.invariant _ _ (rw (at_end _ c.loop-e-test.false, c.of.ensures) (values-all _ (goes_by
     c.args.self.now) _ _))
+
+pub test-loop-e-init : goal.test-loop-e-init
+test-loop-e-init g t c = λ x u e. test-first _ _ _ _ x u e
+
+pub test-returns-in_err-holds : goal.test-returns-in_err-holds
+test-returns-in_err-holds g t c = exits c.from_residual.ensures.1
+    (c.loop-e.invariant _ _ (rw (front _ c.loop-e-test.true
+    c.e-item.is) (test-break _ _ _ _ _ _ (then_on c.expression.ensures (c.in_err-holds.ensures _)))))
+
+pub test-loop-e-preserved : goal.test-loop-e-preserved
+test-loop-e-preserved g t c = λ x u e. c.loop-e.invariant x u
+    (rw (front _ c.loop-e-test.true c.e-item.is) (test-more _ _
+    _ _ _ _ (then_on c.expression.ensures (c.in_ok-holds.ensures _)) e))
+
+pub test-returns : goal.test-returns
+test-returns g t c = c.loop-e.invariant _ _ (rw (at_end _ c.loop-e-test.false) (test-all _ (goes_by c.args.self.now) _
+    _))
+
+pub effects-returns-in_err-effect : goal.effects-returns-in_err-effect
+effects-returns-in_err-effect g t c = exits c.from_residual.ensures.1 (c.loop-e.invariant _ _ (rw (front _
+    c.loop-e-test.true c.e-item.is) (without-break _ _ _ _ _ c.in_err-effect.ensures)))
+
+pub effects-loop-e-preserved : goal.effects-loop-e-preserved
+effects-loop-e-preserved g t c = λ x u e. c.loop-e.invariant x u (rw (front _ c.loop-e-test.true c.e-item.is)
+    (without-more _ _ _ _ _ c.in_ok-effect.ensures e))
+
+pub effects-returns : goal.effects-returns
+effects-returns g t c = c.loop-e.invariant _ _ (rw (at_end _ c.loop-e-test.false) (without-all _ (goes_by
+    c.args.self.now) _))
+
+pub effect-returns-in-Assign : goal.effect-returns-in-Assign
+effect-returns-in-Assign g t c = rw (c.in-Assign.is, run-Assign) (rw c.as_ref.ensures at c.put.ensures)
+
+pub effect-returns-in-Step : goal.effect-returns-in-Step
+effect-returns-in-Step g t c = rw (c.in-Step.is, run-Step) (c.put_step.ensures _)
+
+pub effect-returns-in-Push : goal.effect-returns-in-Push
+effect-returns-in-Push g t c = rw (c.in-Push.is, run-Push) (rw c.as_ref-in-Push.ensures at c.put-in-Push.ensures)
+
+pub effect-returns-in_ok-value-in_default : goal.effect-returns-in_ok-value-in_default
+effect-returns-in_ok-value-in_default g t c = goes_on given_up c.in_ok-value-in_default.ensures gives
 
 pub inclusion-returns-in_err-value : goal.inclusion-returns-in_err-value
 inclusion-returns-in_err-value g t c = exits c.from_residual.ensures.1 (breaks_off _ c.in_err-value.ensures)
@@ -239,6 +285,19 @@ assign-returns-in_err-indices g t c = exits c.from_residual.ensures.1 (rw run-pl
 pub assign-returns : goal.assign-returns
 assign-returns g t c = rw run-place (goes_on _ (rw c.as_slice.ensures at c.in_ok-indices.ensures) (then_on
     c.expression.ensures (rw c.as_slice-2.ensures at c.then_assign.ensures)))
+
+pub put-returns-in_err-indices : goal.put-returns-in_err-indices
+put-returns-in_err-indices g t c = exits c.from_residual.ensures.1
+    (rw (assignment-given_up, run-place) (breaks_off _ (rw
+    c.as_slice.ensures at c.in_err-indices.ensures)))
+
+pub put-returns : goal.put-returns
+put-returns g t c = rw (assignment-given_up, run-place) (goes_on _ (rw c.as_slice.ensures at c.in_ok-indices.ensures)
+    (then_on c.expression.ensures (rw c.as_slice-2.ensures at c.then_put_place.ensures)))
+
+pub put_step-returns : goal.put_step-returns
+put_step-returns g t c = λ order. rw (step-given_up, run-place) (then_on (rw c.as_slice.ensures at c.values.ensures)
+    (c.then_put_step.ensures order))
 
 pub compound-returns-in_err-indices : goal.compound-returns-in_err-indices
 compound-returns-in_err-indices g t c = exits c.from_residual.ensures.1 (rw run-place (breaks_off _ (rw
@@ -434,7 +493,8 @@ statement-returns-in_err-place-in-Expression g t c = exits c.from_residual.ensur
 
 pub statement-returns-in_ok-place-in-Expression : goal.statement-returns-in_ok-place-in-Expression
 statement-returns-in_ok-place-in-Expression g t c = rw (run-statement, c.in-Expression.is, kind-Expression) (passes
-    c.in_ok-place-in-Expression.ensures (then_on c.expression.ensures (c.then_next.ensures _)))
+    c.in_ok-place-in-Expression.ensures (tested_then (λ _. tt) _ (λ _ u. Done Next u) c.effect.ensures
+    (c.then_signal.ensures _)))
 
 pub statement-returns-in_err-place-in-Echo : goal.statement-returns-in_err-place-in-Echo
 statement-returns-in_err-place-in-Echo g t c = exits c.from_residual-in_err-place-in-Echo.ensures.1 (rw
@@ -484,7 +544,7 @@ statement-returns-in_ok-place-in-Foreach g t c = rw (run-statement, c.in-Foreach
 
 pub statement-returns-in-Break : goal.statement-returns-in-Break
 statement-returns-in-Break g t c = rw (run-statement, c.in-Break.is, kind-Break) (then_at c.place-in-Break.ensures
-    (c.then_signal.ensures _))
+    (c.then_signal-in-Break.ensures _))
 
 pub statement-returns-in-Continue : goal.statement-returns-in-Continue
 statement-returns-in-Continue g t c = rw (run-statement, c.in-Continue.is, kind-Continue) (then_at
@@ -532,12 +592,15 @@ pub statement-returns-in_ok-place-in-Exit : goal.statement-returns-in_ok-place-i
 statement-returns-in_ok-place-in-Exit g t c = rw (run-statement, c.in-Exit.is, kind-Exit) (passes
     c.in_ok-place-in-Exit.ensures c.exit.ensures)
 
-pub for_turns-returns-in_err-done : goal.for_turns-returns-in_err-done
-for_turns-returns-in_err-done g t c = exits c.from_residual.ensures.1 (breaks_off _ c.in_err-done.ensures)
+pub for_turns-returns-in_err-effects : goal.for_turns-returns-in_err-effects
+for_turns-returns-in_err-effects g t c = exits c.from_residual.ensures.1 (tested_off (λ _. tt) _ (λ _. for_turns
+    c.args.line c.args.tests.now c.args.after.now (statement_run c.args.body.now) (goes_by c.args.self.now) [])
+    c.in_err-effects.ensures)
 
 pub for_turns-returns : goal.for_turns-returns
-for_turns-returns g t c = goes_on _ c.in_ok-done.ensures (by-for c.args.self.now c.args.line c.args.body.now
-    c.values.new.state c.args.tests.now c.args.after.now c.turns.ensures)
+for_turns-returns g t c = tested_on (λ _. tt) _ (λ _. for_turns c.args.line c.args.tests.now c.args.after.now
+    (statement_run c.args.body.now) (goes_by c.args.self.now) []) c.in_ok-effects.ensures (by-for c.args.self.now
+    c.args.line c.args.body.now c.effects.new.state c.args.tests.now c.args.after.now c.turns.ensures)
 
 pub foreach-returns-in_err-subject : goal.foreach-returns-in_err-subject
 foreach-returns-in_err-subject g t c = exits c.from_residual.ensures.1 (breaks_off _ c.in_err-subject.ensures)
@@ -573,19 +636,21 @@ arms-returns-in_err-place g t c = exits c.from_residual.ensures.1 (c.loop-arm.in
 
 pub arms-returns-in_err-holds : goal.arms-returns-in_err-holds
 arms-returns-in_err-holds g t c = exits c.from_residual-in_err-holds.ensures.1 (c.loop-arm.invariant _ _ (rw (front _
-    c.loop-arm-test.true c.arm-item.is) (rw run-arm (passes c.in_ok-place.ensures (tested_off _ (by-arm c.args.self.now
+    c.loop-arm-test.true c.arm-item.is) (rw run-arm (passes c.in_ok-place.ensures
+    (tested_off holds _ (by-arm c.args.self.now
     c.arm-item.result (drop (c.loop-arm.arm-index + 1) c.args.arms.now) c.args.otherwise.now) (then_on
     c.expression.ensures (c.in_err-holds.ensures _)))))))
 
 pub arms-returns-then-holds : goal.arms-returns-then-holds
 arms-returns-then-holds g t c = c.loop-arm.invariant _ _ (rw (front _ c.loop-arm-test.true c.arm-item.is) (rw run-arm
-    (passes c.in_ok-place.ensures (tested_on _ (by-arm c.args.self.now c.arm-item.result (drop (c.loop-arm.arm-index +
+    (passes c.in_ok-place.ensures (tested_on holds _ (by-arm c.args.self.now c.arm-item.result
+    (drop (c.loop-arm.arm-index +
     1) c.args.arms.now) c.args.otherwise.now) (then_on c.expression.ensures (c.in_ok-holds.ensures _)) (rw
     c.if-holds.true c.statement.ensures)))))
 
 pub arms-loop-arm-preserved : goal.arms-loop-arm-preserved
 arms-loop-arm-preserved g t c = λ x u e. c.loop-arm.invariant x u (rw (front _ c.loop-arm-test.true c.arm-item.is) (rw
-    run-arm (passes c.in_ok-place.ensures (tested_on _ (by-arm c.args.self.now c.arm-item.result (drop
+    run-arm (passes c.in_ok-place.ensures (tested_on holds _ (by-arm c.args.self.now c.arm-item.result (drop
     (c.loop-arm.arm-index + 1) c.args.arms.now) c.args.otherwise.now) (then_on c.expression.ensures
     (c.in_ok-holds.ensures _)) (rw c.if-holds.false e)))))
 
@@ -613,40 +678,41 @@ turns-returns-in_err-place g t c = exits c.from_residual.ensures.1 (c.loop-turn.
     c.args.self.now (c.args.left - c.loop-turn._turn) c.args.line c.args.tests.now c.args.after.now c.args.body.now
     (omega arith) c.in_err-place.ensures))
 
-pub turns-returns-in_err-values : goal.turns-returns-in_err-values
-turns-returns-in_err-values g t c = exits c.from_residual-in_err-values.ensures.1 (c.loop-turn.invariant _ _
+pub turns-returns-in_err-on : goal.turns-returns-in_err-on
+turns-returns-in_err-on g t c = exits c.from_residual-in_err-on.ensures.1 (c.loop-turn.invariant _ _
     (test-breaks _ c.args.self.now (c.args.left - c.loop-turn._turn) c.args.line c.args.tests.now c.args.after.now
-    c.args.body.now (omega arith) c.in_ok-place.ensures c.in_err-values.ensures))
+    c.args.body.now (omega arith) c.in_ok-place.ensures c.in_err-on.ensures))
 
 pub turns-returns-then-not-on : goal.turns-returns-then-not-on
 turns-returns-then-not-on g t c = c.loop-turn.invariant _ _ (turns-end _ c.args.self.now (c.args.left -
     c.loop-turn._turn) c.args.line c.args.tests.now c.args.after.now c.args.body.now (omega arith) c.in_ok-place.ensures
-    c.in_ok-values.ensures (rw c.as_slice.ensures at (sym c.last_holds-on.ensures ∙ c.if-not-on.true)))
+    c.in_ok-on.ensures c.if-not-on.true)
 
 pub turns-returns-in_err-statement : goal.turns-returns-in_err-statement
 turns-returns-in_err-statement g t c = exits c.from_residual-in_err-statement.ensures.1 (c.loop-turn.invariant _ _
     (body-breaks _ c.args.self.now (c.args.left - c.loop-turn._turn) c.args.line c.args.tests.now c.args.after.now
-    c.args.body.now (omega arith) c.in_ok-place.ensures c.in_ok-values.ensures (rw c.as_slice.ensures at (sym
-    c.last_holds-on.ensures ∙ c.if-not-on.false)) c.in_err-statement.ensures))
+    c.args.body.now (omega arith) c.in_ok-place.ensures c.in_ok-on.ensures c.if-not-on.false
+    c.in_err-statement.ensures))
 
 pub turns-returns-in-Out : goal.turns-returns-in-Out
 turns-returns-in-Out g t c = c.loop-turn.invariant _ _ (body-out _ c.args.self.now (c.args.left - c.loop-turn._turn)
     c.args.line c.args.tests.now c.args.after.now c.args.body.now (omega arith) c.in_ok-place.ensures
-    c.in_ok-values.ensures (rw c.as_slice.ensures at (sym c.last_holds-on.ensures ∙ c.if-not-on.false))
+    c.in_ok-on.ensures c.if-not-on.false
     c.in_ok-statement.ensures (sym c.after_body.ensures ∙ c.in-Out.is))
 
-pub turns-returns-in_err-done : goal.turns-returns-in_err-done
-turns-returns-in_err-done g t c = exits c.from_residual-in_err-done.ensures.1 (c.loop-turn.invariant _ _ (next-breaks _
+pub turns-returns-in_err-effects : goal.turns-returns-in_err-effects
+turns-returns-in_err-effects g t c = exits c.from_residual-in_err-effects.ensures.1
+    (c.loop-turn.invariant _ _ (next-breaks _
     c.args.self.now (c.args.left - c.loop-turn._turn) c.args.line c.args.tests.now c.args.after.now c.args.body.now
-    (omega arith) c.in_ok-place.ensures c.in_ok-values.ensures (rw c.as_slice.ensures at (sym c.last_holds-on.ensures ∙
-    c.if-not-on.false)) c.in_ok-statement.ensures (sym c.after_body.ensures ∙ c.in-On.is) c.in_err-done.ensures))
+    (omega arith) c.in_ok-place.ensures c.in_ok-on.ensures c.if-not-on.false c.in_ok-statement.ensures
+    (sym c.after_body.ensures ∙ c.in-On.is) c.in_err-effects.ensures))
 
 pub turns-loop-turn-preserved : goal.turns-loop-turn-preserved
 turns-loop-turn-preserved g t c = λ x u e. let n : c.args.left - (c.loop-turn._turn + 1) ≡ c.args.left -
     c.loop-turn._turn - 1 = omega arith in c.loop-turn.invariant x u (turn-goes-on _ c.args.self.now (c.args.left -
     c.loop-turn._turn) c.args.line c.args.tests.now c.args.after.now c.args.body.now (omega arith) c.in_ok-place.ensures
-    c.in_ok-values.ensures (rw c.as_slice.ensures at (sym c.last_holds-on.ensures ∙ c.if-not-on.false))
-    c.in_ok-statement.ensures (sym c.after_body.ensures ∙ c.in-On.is) x u c.in_ok-done.ensures (rw n at e))
+    c.in_ok-on.ensures c.if-not-on.false
+    c.in_ok-statement.ensures (sym c.after_body.ensures ∙ c.in-On.is) x u c.in_ok-effects.ensures (rw n at e))
 
 pub turns-returns : goal.turns-returns
 turns-returns g t c = let n : c.args.left - c.loop-turn._turn ≡ 0 = omega arith in c.loop-turn.invariant _ _ (rw n ends)
@@ -728,8 +794,8 @@ pub each-returns : goal.each-returns
 each-returns g t c = let h : length c.in-Array.array.pairs ≤ c.loop-at.at = omega (arith, c.len-at-end.ensures.len) in
     c.loop-at.invariant _ _ (rw (at_end c.in-Array.array.pairs h) gives)
 
-pub statement-expression-requires : goal.statement-expression-requires
-statement-expression-requires g t c = let size = sized c.args.statement.now c.in-Expression.is (size-Expression
+pub statement-effect-requires : goal.statement-effect-requires
+statement-effect-requires g t c = let size = sized c.args.statement.now c.in-Expression.is (size-Expression
     c.in-Expression.e) in λ κs h. (omega (arith, size, c.decreases), h)
 
 pub statement-echo-requires : goal.statement-echo-requires

@@ -1,6 +1,6 @@
 -- The measures of the evaluator's recursion, and what its loops keep: what the rest of a list gives, the whole list
 -- gives.
-use Rattle.std.proofs.Common.{◌+◌, ◌-◌, ◌*◌, max, List, map, drop, Result}
+use Rattle.std.proofs.Common.{◌+◌, ◌-◌, ◌*◌, Bool, max, List, map, drop, Result}
 use Rattle.std.specs.Prelude.{option_map}
 use Rattle.std.specs.Option.{option_map_or}
 use denote.Param.Weighed.{most}
@@ -19,12 +19,14 @@ use Rattle.dp_meaning.specs.inner.Evaluation.{goes_by}
 use Rattle.dp_actions.specs.InPlace.{entries_by}
 use Rattle.dp_actions.specs.Expressions.{evaluation, evaluations, expression_run, indices_run, items_run, links_run, place_run}
 use Rattle.dp_actions.specs.Expressions.{item_run_of, link_run}
-use Rattle.dp_actions.specs.Loops.{do_turns, each_run, entries, turns}
+use Rattle.dp_actions.specs.Loops.{do_turns, each_run, entries, last_holds, turns}
+use Rattle.dp_actions.specs.Run.{Done, and_then}
 use Rattle.dp_actions.specs.Places.{isset_run, unset_run}
 use Rattle.dp_actions.specs.Bodies.{statements_of}
 use Rattle.dp_meaning.specs.inner.Sizes.{arm_size, body_size, definitions_size, expression_size, expressions_size, frame_size, optional_size, sizes_sum, statement_size}
 use Rattle.dp_actions.specs.Statements.{arms_run, body_run, constants_run, echoes, statement_run}
 use Rattle.dp_actions.specs.Statements.{arm_run}
+use Rattle.dp_meaning.proofs.GivenUp.{test_from, without_values}
 use Rattle.dp_meaning.proofs.ListLaws.{more_values}
 use Rattle.dp_meaning.proofs.evaluator.Evaluator.+evaluate.Given as goal
 
@@ -111,6 +113,12 @@ decreases-foreach g l =
     l.self.now.depth * frame_size l.self.now.bundle.now + (expression_size l.subject.now + statement_size l.body.now +
     2)
 
+abbrev pub decreases-effect : goal.decreases-effect
+decreases-effect g l = l.self.now.depth * frame_size l.self.now.bundle.now + (expression_size l.e.now + 1)
+
+abbrev pub decreases-effects : goal.decreases-effects
+decreases-effects g l = l.self.now.depth * frame_size l.self.now.bundle.now + expressions_size l.all.now
+
 abbrev pub decreases-exit : goal.decreases-exit
 decreases-exit g l = l.self.now.depth * frame_size l.self.now.bundle.now + (optional_size l.value.now + 3)
 
@@ -163,6 +171,14 @@ decreases-links g l = l.self.now.depth * frame_size l.self.now.bundle.now + (4 *
 abbrev pub decreases-named : goal.decreases-named
 decreases-named g l = l.self.now.depth * frame_size l.self.now.bundle.now + (expressions_size l.arguments.now + 1)
 
+abbrev pub decreases-put : goal.decreases-put
+decreases-put g l =
+    l.self.now.depth * frame_size l.self.now.bundle.now + (4 * max (size-Place l.place.now)
+    (size-Expression l.right.now) + 3)
+
+abbrev pub decreases-put_step : goal.decreases-put_step
+decreases-put_step g l = l.self.now.depth * frame_size l.self.now.bundle.now + (4 * size-Place l.place.now + 3)
+
 abbrev pub decreases-return_value : goal.decreases-return_value
 decreases-return_value g l = l.self.now.depth * frame_size l.self.now.bundle.now + (optional_size l.value.now + 3)
 
@@ -171,6 +187,9 @@ decreases-statement g l = l.self.now.depth * frame_size l.self.now.bundle.now + 
 
 abbrev pub decreases-step : goal.decreases-step
 decreases-step g l = l.self.now.depth * frame_size l.self.now.bundle.now + (4 * size-Place l.place.now + 3)
+
+abbrev pub decreases-test : goal.decreases-test
+decreases-test g l = l.self.now.depth * frame_size l.self.now.bundle.now + (4 * most size-Expression l.all.now + 1)
 
 abbrev pub decreases-turns : goal.decreases-turns
 decreases-turns g l = l.self.now.depth * frame_size l.self.now.bundle.now +
@@ -190,6 +209,19 @@ invariant-values-loop-e g l = (x : Result (List Value) Halt) (t : State)
     → Evaluates (g.O.Outside.rules l.self.outside.now) (more_values (drop l.e-index l.all) l.values.items
     (goes_by l.self) l.state) x t
     → Evaluates (g.O.Outside.rules l.self.outside.now) (evaluations l.all (goes_by l.self) l.fn.state) x t
+
+abbrev pub invariant-test-loop-e : goal.invariant-test-loop-e
+invariant-test-loop-e g l = (x : Result Bool Halt) (t : State)
+    → Evaluates (g.O.Outside.rules l.self.outside.now) (test_from (goes_by l.self) l.holds (drop l.e-index l.all)
+    l.state) x t
+    → Evaluates (g.O.Outside.rules l.self.outside.now) (and_then (evaluations l.all (goes_by l.self) l.fn.state)
+    (λ values u. Done (last_holds values) u)) x t
+
+abbrev pub invariant-effects-loop-e : goal.invariant-effects-loop-e
+invariant-effects-loop-e g l = (x : Result Unit Halt) (t : State)
+    → Evaluates (g.O.Outside.rules l.self.outside.now) (without_values (goes_by l.self) (drop l.e-index l.all) l.state)
+    x t
+    → Evaluates (g.O.Outside.rules l.self.outside.now) (without_values (goes_by l.self) l.all l.fn.state) x t
 
 abbrev pub invariant-array-loop-item : goal.invariant-array-loop-item
 invariant-array-loop-item g l = (x : Result Value Halt) (t : State)

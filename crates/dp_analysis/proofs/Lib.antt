@@ -1,0 +1,3 @@
+pub mod TreeStill
+pub mod TreeQuiet
+pub mod LoudLaws

@@ -1,0 +1,4 @@
+pub mod Still
+pub mod Quiet
+pub mod Depth
+pub mod inner

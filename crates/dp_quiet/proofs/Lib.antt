@@ -1,5 +1,0 @@
-pub mod TreeQuiet
-pub mod FreeExpressions
-pub mod FreeRuns
-pub mod FreeCalls
-pub mod WalkLaws

@@ -1,7 +1,0 @@
-use Rattle.std.proofs.Common.{ℕ, List, ap}
-use Rattle.dp_depth.specs.Depth.{is_named}
-use Rattle.dp_quiet.proofs.loud.names_that_stay.Goals as goal
-
-pub loop-file-init : goal.loop-file-init
-unfolding is_named
-loop-file-init c = λ name. ap (λ (names : List (List ℕ)). is_named names name) c.new-names.ensures

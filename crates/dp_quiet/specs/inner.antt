@@ -1,2 +1,0 @@
--- Definitions that proofs alone use.
-pub mod Parts
