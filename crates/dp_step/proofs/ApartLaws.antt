@@ -20,16 +20,16 @@ use Rattle.dp_meaning.specs.Programs.{setting_of}
 use Rattle.dp_meaning.specs.Writes.{arrived, evaluated, evaluation_limit, evaluation_setting}
 use Rattle.dp_meaning.proofs.Alone.{evaluated-comes}
 use Rattle.dp_meaning.proofs.Drives.{carry, drive-and_then}
-use Rattle.dp_step_parts.specs.declared.work.Given.{Given}
-use Rattle.dp_step_parts.specs.declared.work.Given.TheVariants as given
-use Rattle.dp_step_statements.specs.declared.work.AfterValue.TheVariants.{ReturnIt}
-use Rattle.dp_step_statements.specs.declared.work.Hand.{Hand}
-use Rattle.dp_step_statements.specs.declared.work.Hand.TheVariants as hand
-use Rattle.dp_step_statements.specs.declared.work.Waiting.{Waiting}
-use Rattle.dp_step_statements.specs.declared.work.Waiting.TheVariants as waiting
-use Rattle.dp_step_statements.specs.declared.work.Work.TheVariants as work
-use Rattle.dp_step_statements.specs.Rest.{hand_rest}
-use Rattle.dp_step_parts.specs.Rest.{Follows, to_value}
+use Rattle.dp_small_steps.specs.declared.work.Given.{Given}
+use Rattle.dp_small_steps.specs.declared.work.Given.TheVariants as given
+use Rattle.dp_small_steps.specs.declared.work.AfterValue.TheVariants.{ReturnIt}
+use Rattle.dp_small_steps.specs.declared.work.Hand.{Hand}
+use Rattle.dp_small_steps.specs.declared.work.Hand.TheVariants as hand
+use Rattle.dp_small_steps.specs.declared.work.Waiting.{Waiting}
+use Rattle.dp_small_steps.specs.declared.work.Waiting.TheVariants as waiting
+use Rattle.dp_small_steps.specs.declared.work.Work.TheVariants as work
+use Rattle.dp_small_steps.specs.Rest.{hand_rest}
+use Rattle.dp_small_steps.specs.Parts.{Follows, to_value}
 use Rattle.dp_step.specs.declared.machine.Machine.{Machine}
 use Rattle.dp_step.specs.declared.machine.Progress.TheVariants as progress
 use Rattle.dp_step.specs.inner.Apart.{GivesBack, GivesBackBy, IsIdle, returned, value_in, value_in_hand}

@@ -11,7 +11,7 @@ use Rattle.dp_step.specs.declared.machine.Arrival.TheVariants as arrival
 use Rattle.dp_step.specs.declared.machine.Machine.{Machine}
 use Rattle.dp_step.specs.declared.machine.Progress.{Progress}
 use Rattle.dp_step.specs.declared.machine.Progress.TheVariants as progress
-use Rattle.dp_step_statements.specs.declared.work.Hand.TheVariants as hand
+use Rattle.dp_small_steps.specs.declared.work.Hand.TheVariants as hand
 use Rattle.dp_step.specs.Stands.{HasEnded, Leaves, rest_of}
 use Rattle.dp_step.specs.inner.Leaps.{RunsOut, driven}
 use Rattle.dp_step.specs.inner.Moves.{Arrives, Comes, IsOver}

@@ -28,19 +28,18 @@ use Rattle.dp_meaning.proofs.Drives.{carry, drive-and_then}
 use Rattle.dp_meaning.proofs.Steady.{IsSteady, steady-program}
 use Rattle.dp_meaning.proofs.Wholes.{come_to, meets}
 use Rattle.dp_meaning.proofs.WrittenMoments.{moments-written}
-use Rattle.dp_step_parts.specs.declared.work.Given.TheVariants as given
-use Rattle.dp_step_parts.specs.declared.work.Hand.TheVariants as part
-use Rattle.dp_step_parts.specs.Rest.{to_signal}
+use Rattle.dp_small_steps.specs.declared.work.Given.TheVariants as given
+use Rattle.dp_small_steps.specs.Parts.{to_signal}
 use Rattle.dp_step.specs.declared.machine.Came.TheVariants as came
 use Rattle.dp_step.specs.declared.machine.Machine.{Machine}
 use Rattle.dp_step.specs.declared.machine.Progress.TheVariants as progress
-use Rattle.dp_step_statements.specs.declared.work.Hand.{Hand}
-use Rattle.dp_step_statements.specs.declared.work.Head.{Head}
-use Rattle.dp_step_statements.specs.declared.work.Turns.{Turns}
-use Rattle.dp_step_statements.specs.declared.work.Hand.TheVariants as hand
+use Rattle.dp_small_steps.specs.declared.work.Hand.{Hand}
+use Rattle.dp_small_steps.specs.declared.work.Head.{Head}
+use Rattle.dp_small_steps.specs.declared.work.Turns.{Turns}
+use Rattle.dp_small_steps.specs.declared.work.Hand.TheVariants as hand
 use Rattle.dp_step.specs.inner.Leaps.{HasRun, Leaps, LeapsBy, RunsOut, driven, part_with}
 use Rattle.dp_step.specs.inner.Moves.{Comes, IsOver, Moves, follows_of, rest_with, setting_at}
-use Rattle.dp_step_statements.specs.Rest.{after_of, tests_of}
+use Rattle.dp_small_steps.specs.Rest.{after_of, tests_of}
 use Rattle.dp_step.specs.Stands.{NoneAbove, StandsFor, rest_of}
 use Rattle.dp_step.proofs.Smalls.{rest-by}
 use Rattle.dp_step.proofs.MachineSteps.{nothing-by, of_image, onward, raised}
@@ -92,15 +91,15 @@ module _ (m : Machine) (whole : Part Signal) (s : State) where
   -- what it gave is in hand
   pub gives-on : (g : Signal) (new : Machine) → HasRun m whole (Ok g) s → new.bundle.now ≡ m.bundle.now
       → new.bound ≡ m.bound → new.depth ≡ m.depth
-      → new.hand ≡ hand.Part (part.Give (given.Signal g)) → new.pending.items ≡ m.pending.items → new.state ≡ m.state
+      → new.hand ≡ hand.Give (given.Signal g) → new.pending.items ≡ m.pending.items → new.state ≡ m.state
       → Leaps m (part_with m whole s) None new
   gives-on g new ran bundle bound depth in-hand items state = record {
     by =
         drive-and_then (only_bounded m.bound) (whole (setting_at m) s) (to_signal (follows_of m))
         ∙ ap (λ (r : Reached Signal). carry (only_bounded m.bound) r (to_signal (follows_of m)))
         (meets m.bound (writes_of m.bundle.now []) refl (whole (setting_at m) s) (Ok g) m.state ran.by)
-        ∙ ap (drive (only_bounded m.bound)) (sym (rest-by new m.bundle.now m.bound m.depth (hand.Part (part.Give
-        (given.Signal g))) m.pending.items
+        ∙ ap (drive (only_bounded m.bound)) (sym (rest-by new m.bundle.now m.bound m.depth (hand.Give
+        (given.Signal g)) m.pending.items
         bundle bound depth in-hand items m.state))
         ∙ (λ i. drive (only_bounded (sym bound i)) (rest_of new (sym state i)));
     same_bound = bound;

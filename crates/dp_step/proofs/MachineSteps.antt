@@ -24,7 +24,7 @@ use Rattle.dp_step.specs.declared.machine.Arrival.TheVariants as arrival
 use Rattle.dp_step.specs.declared.machine.Machine.{Machine}
 use Rattle.dp_step.specs.declared.machine.Progress.{Progress}
 use Rattle.dp_step.specs.declared.machine.Progress.TheVariants as progress
-use Rattle.dp_step_parts.specs.Rest.{to_signal}
+use Rattle.dp_small_steps.specs.Parts.{to_signal}
 use Rattle.dp_step.specs.Stands.{ComesTo, EndsWith, GoesOn, NoneAbove, StandsFor, pending_rest, rest_of}
 use Rattle.dp_step.specs.inner.Moves.{Arrives, Comes, IsOver}
 use Rattle.dp_step.proofs.Courses.{first-following, first-moment, goes_past, none-in-bound}

@@ -14,7 +14,8 @@ use Rattle.dp_actions.specs.Run.{Run, Done, Over, At, and_then}
 use Rattle.dp_meaning.specs.inner.Drive.{Ends, Gives, Reached, drive, only_bounded}
 use Rattle.dp_meaning.specs.Trace.{moment_of}
 use Rattle.dp_meaning.specs.Writes.{arrived}
-use Rattle.dp_quiet.specs.Quiet.{OnFree, is_free, is_unwatched}
+use Rattle.dp_analysis.specs.Quiet.{is_free}
+use Rattle.dp_meaning.specs.Unwatched.{OnFree, is_unwatched}
 use Rattle.dp_step.specs.Past.{IsPassed}
 use Rattle.dp_step.specs.inner.Passing.{IsOverBy, Passes}
 

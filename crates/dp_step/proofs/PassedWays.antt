@@ -12,10 +12,9 @@ use Rattle.dp_actions.specs.Statements.{statement_run}
 use Rattle.dp_meaning.specs.Whole.{RunsWhole}
 use Rattle.dp_meaning.specs.Writes.{writes_of}
 use Rattle.dp_meaning.proofs.Wholes.{meets}
-use Rattle.dp_step_parts.specs.declared.work.Given.TheVariants as given
-use Rattle.dp_step_parts.specs.declared.work.Hand.TheVariants as part
-use Rattle.dp_step_parts.specs.Rest.{to_signal}
-use Rattle.dp_step_statements.specs.declared.work.Hand.TheVariants as hand
+use Rattle.dp_small_steps.specs.declared.work.Given.TheVariants as given
+use Rattle.dp_small_steps.specs.Parts.{to_signal}
+use Rattle.dp_small_steps.specs.declared.work.Hand.TheVariants as hand
 use Rattle.dp_step.specs.declared.machine.Arrival.{Arrival}
 use Rattle.dp_step.specs.declared.machine.Arrival.TheVariants as arrival
 use Rattle.dp_step.specs.declared.machine.Came.{Came}
@@ -25,7 +24,8 @@ use Rattle.dp_step.specs.inner.Leaps.{whole_of}
 use Rattle.dp_step.specs.inner.Moves.{IsOver, Moves, came_of, follows_of, setting_at}
 use Rattle.dp_step.specs.inner.Passing.{Approaches, IsInHand, IsOverBy, LeadsTo, Nears, NearsBy, Passes}
 use Rattle.dp_step.specs.Stands.{rest_of}
-use Rattle.dp_quiet.specs.Quiet.{AreLoud, OnFree}
+use Rattle.dp_analysis.specs.Quiet.{AreLoud}
+use Rattle.dp_meaning.specs.Unwatched.{OnFree}
 use Rattle.dp_step.proofs.PassedRuns.{ends, gives, passes-on}
 use Rattle.dp_step.proofs.Smalls.{done-is, over-is, rest-by}
 
@@ -49,7 +49,7 @@ module _ (lines : List ℕ) (names : Option (List (List ℕ))) (old : Machine) (
   pub quiet-on : (g : Signal) (s : State) (new : Machine)
       → RunsWhole (whole_of old) (statement_run statement) (Ok g) old.state s
       → new.bundle.now ≡ old.bundle.now → new.bound ≡ old.bound → new.depth ≡ old.depth
-      → new.hand ≡ hand.Part (part.Give (given.Signal g)) → new.pending.items ≡ old.pending.items → new.state ≡ s
+      → new.hand ≡ hand.Give (given.Signal g) → new.pending.items ≡ old.pending.items → new.state ≡ s
       → NearsBy lines calls old new
   quiet-on g s new ran bundle bound depth held items state =
       let passed = gives lines calls in_hand.0.0 old.bound (to_signal (follows_of old)) this
@@ -57,7 +57,7 @@ module _ (lines : List ℕ) (names : Option (List (List ℕ))) (old : Machine) (
       (meets old.bound (writes_of old.bundle.now []) refl this (Ok g) s ran) in
       let is : rest_of new new.state ≡ to_signal (follows_of old) g s =
       ap (rest_of new) state ∙ rest-by new old.bundle.now old.bound old.depth
-      (hand.Part (part.Give (given.Signal g))) old.pending.items bundle bound depth held items s in record {
+      (hand.Give (given.Signal g)) old.pending.items bundle bound depth held items s in record {
         over = passed.0;
         passes = subst (λ (r : Run Signal). Passes lines calls old.bound r passed.0 (rest_of new new.state)) (sym was)
             (subst (λ (r : Run Signal). Passes lines calls old.bound (this >>= to_signal (follows_of old)) passed.0 r)

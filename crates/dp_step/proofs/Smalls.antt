@@ -28,18 +28,17 @@ use Rattle.dp_actions.proofs.Runs.{and_then-assoc, and_then-same}
 use Rattle.dp_step.specs.declared.machine.Came.{Came}
 use Rattle.dp_step.specs.declared.machine.Came.TheVariants as step
 use Rattle.dp_step.specs.declared.machine.Machine.{Machine}
-use Rattle.dp_step_parts.specs.declared.work.Given.{Given}
-use Rattle.dp_step_parts.specs.declared.work.Given.TheVariants as given
-use Rattle.dp_step_parts.specs.declared.work.Hand.TheVariants as part
-use Rattle.dp_step_statements.specs.declared.work.Hand.{Hand}
-use Rattle.dp_step_statements.specs.declared.work.Hand.TheVariants as hand
-use Rattle.dp_step_statements.specs.declared.work.Small.{Small}
-use Rattle.dp_step_statements.specs.declared.work.Waiting.{Waiting}
-use Rattle.dp_step_statements.specs.declared.work.Waiting.TheVariants as waiting
-use Rattle.dp_step_statements.specs.Rest.{behind, hand_rest, next_rest, small_rest, waiting_rest}
-use Rattle.dp_step_parts.specs.Rest.{Follows, to_signal, to_value}
+use Rattle.dp_small_steps.specs.declared.work.Given.{Given}
+use Rattle.dp_small_steps.specs.declared.work.Given.TheVariants as given
+use Rattle.dp_small_steps.specs.declared.work.Hand.{Hand}
+use Rattle.dp_small_steps.specs.declared.work.Hand.TheVariants as hand
+use Rattle.dp_small_steps.specs.declared.work.Small.{Small}
+use Rattle.dp_small_steps.specs.declared.work.Waiting.{Waiting}
+use Rattle.dp_small_steps.specs.declared.work.Waiting.TheVariants as waiting
+use Rattle.dp_small_steps.specs.Rest.{behind, hand_rest, next_rest, small_rest, waiting_rest}
+use Rattle.dp_small_steps.specs.Parts.{Follows, to_signal, to_value}
 use Rattle.dp_step.specs.Stands.{depth_after, pending_rest, rest_of, signal_of}
-use Rattle.dp_step_statements.specs.Goes.{Goes}
+use Rattle.dp_small_steps.specs.Leads.{Goes}
 use Rattle.dp_step.specs.inner.Moves.{IsDone, IsOver, Moves, MovesBy, body_with, came_of, came_to, ends_call, file_with, follows_of, leave_if, rest_with, setting_at, small_with}
 
 -- ---- the innermost item
@@ -181,7 +180,7 @@ module _ (m : Machine) (s : State) where
 
   -- nothing is pending
   pub nothing-left : (popped : List Waiting) (g : Given) (new : Machine) → m.pending.items ≡ popped ++ []
-      → popped ≡ [] → new.hand ≡ hand.Part (part.Give g) → new.state ≡ s
+      → popped ≡ [] → new.hand ≡ hand.Give g → new.state ≡ s
       → IsDone (pending_rest m.bundle.now m.bound m.depth (reverse m.pending.items) g s) new
   nothing-left popped g new e none held state =
       let empty : m.pending.items ≡ [] = e ∙ ap (λ (l : List Waiting). l ++ []) none in record {

@@ -15,24 +15,23 @@ use Rattle.dp_actions.specs.Expressions.{evaluation, evaluations}
 use Rattle.dp_actions.specs.Loops.{entries}
 use Rattle.dp_actions.specs.Values.{holds}
 use Rattle.dp_actions.specs.Run.{Run, Done, Over, At, and_then, ◌>>=◌}
-use Rattle.dp_actions.specs.Statements.{body_run, go_on}
+use Rattle.dp_actions.specs.Statements.{body_run, go_on, statement_run}
 use Rattle.dp_actions.proofs.Runs.{and_then-assoc}
-use Rattle.dp_step_parts.specs.declared.work.Given.TheVariants as given
-use Rattle.dp_step_parts.specs.declared.work.Hand.TheVariants as part
-use Rattle.dp_step_parts.specs.Leads.{Leads}
-use Rattle.dp_step_parts.specs.Rest.{Follows, to_signal}
-use Rattle.dp_step_statements.specs.declared.work.DoTurns.{DoTurns}
-use Rattle.dp_step_statements.specs.declared.work.EachTurns.{EachTurns}
-use Rattle.dp_step_statements.specs.declared.work.ForSignal.{ForSignal}
-use Rattle.dp_step_statements.specs.declared.work.ForSignal.TheVariants as signal_work
-use Rattle.dp_step_statements.specs.declared.work.Hand.{Hand}
-use Rattle.dp_step_statements.specs.declared.work.Hand.TheVariants as hand
-use Rattle.dp_step_statements.specs.declared.work.Turns.{Turns}
-use Rattle.dp_step_statements.specs.declared.work.Waiting.{Waiting}
-use Rattle.dp_step_statements.specs.declared.work.Work.TheVariants as work
-use Rattle.dp_step_statements.specs.Rest.{do_decided, do_test, do_turns_of, each_from, each_rest, first_run, hand_rest, signal_rest, turns_decided, turns_of, turns_tested, work_rest}
-use Rattle.dp_step_statements.proofs.FirstStatements.{body-first}
-use Rattle.dp_step_statements.proofs.TurnLaws.{at-same, do-first, each-first, test-alone, turn-first}
+use Rattle.dp_small_steps.specs.declared.work.Given.TheVariants as given
+use Rattle.dp_small_steps.specs.Leads.{Leads}
+use Rattle.dp_small_steps.specs.Parts.{Follows, to_signal}
+use Rattle.dp_small_steps.specs.declared.work.DoTurns.{DoTurns}
+use Rattle.dp_small_steps.specs.declared.work.EachTurns.{EachTurns}
+use Rattle.dp_small_steps.specs.declared.work.ForSignal.{ForSignal}
+use Rattle.dp_small_steps.specs.declared.work.ForSignal.TheVariants as signal_work
+use Rattle.dp_small_steps.specs.declared.work.Hand.{Hand}
+use Rattle.dp_small_steps.specs.declared.work.Hand.TheVariants as hand
+use Rattle.dp_small_steps.specs.declared.work.Turns.{Turns}
+use Rattle.dp_small_steps.specs.declared.work.Waiting.{Waiting}
+use Rattle.dp_small_steps.specs.declared.work.Work.TheVariants as work
+use Rattle.dp_small_steps.specs.Rest.{do_decided, do_test, do_turns_of, each_from, each_rest, hand_rest, signal_rest, turns_decided, turns_of, turns_tested, work_rest}
+use Rattle.dp_small_steps.proofs.FirstStatements.{body-first}
+use Rattle.dp_small_steps.proofs.TurnLaws.{at-same, do-first, each-first, test-alone, turn-first}
 use Rattle.dp_step.specs.declared.machine.Came.{Came}
 use Rattle.dp_step.specs.declared.machine.Machine.{Machine}
 use Rattle.dp_step.specs.inner.Moves.{MovesBy, came_of, setting_at}
@@ -87,7 +86,7 @@ module _ {A : Type 0} (items below : List A) (x : A) (n : ℕ) (e : items ≡ be
 
 -- the signal in hand
 abbrev pub go-on : Hand
-go-on = hand.Part (part.Give (given.Signal Next))
+go-on = hand.Give (given.Signal Next)
 
 module _ (m : Machine) (below : List Waiting) (s : State) where
   -- this item is given the signal to go on
@@ -116,13 +115,13 @@ module _ (m : Machine) (below : List Waiting) (s : State) where
 
     pub rest-more : (first : Statement) → drop at all ≡ first ∷ drop (at + 1) all
         → (body_run (drop at all) (setting_at m) s >>= to_signal (over m below))
-        ≡ (first_run (drop at all) (setting_at m) s >>= λ g t. go_on g (body_run (drop (at + 1) all) (setting_at m)) t
+        ≡ (statement_run first (setting_at m) s >>= λ g t. go_on g (body_run (drop (at + 1) all) (setting_at m)) t
         >>= to_signal (over m below))
     rest-more first e = rw e (body-first (setting_at m) (over m below) s first (drop (at + 1) all))
 
     pub rest-last : (first : Statement) → drop at all ≡ first ∷ drop (at + 1) all → drop (at + 1) all ≡ []
         → (body_run (drop at all) (setting_at m) s >>= to_signal (over m below))
-        ≡ (first_run (drop at all) (setting_at m) s >>= to_signal (over m below))
+        ≡ (statement_run first (setting_at m) s >>= to_signal (over m below))
     rest-last first e none =
         rw (e, none) (ap (λ (r : Run Signal). r >>= to_signal (over m below)) (last-run (setting_at m) first s))
 

@@ -19,13 +19,13 @@ use Rattle.dp_meaning.specs.Writes.{writes_of}
 use Rattle.dp_step.specs.declared.machine.Machine.{Machine}
 use Rattle.dp_step.specs.declared.machine.Progress.{Progress}
 use Rattle.dp_step.specs.declared.machine.Progress.TheVariants as progress
-use Rattle.dp_step_parts.specs.declared.work.Given.{Given}
-use Rattle.dp_step_parts.specs.declared.work.Given.TheVariants as given
-use Rattle.dp_step_statements.specs.declared.work.Hand.TheVariants as hand
-use Rattle.dp_step_statements.specs.declared.work.Waiting.{Waiting}
-use Rattle.dp_step_statements.specs.declared.work.Waiting.TheVariants as waiting
-use Rattle.dp_step_statements.specs.Rest.{hand_rest, waiting_rest}
-use Rattle.dp_step_parts.specs.Rest.{Follows}
+use Rattle.dp_small_steps.specs.declared.work.Given.{Given}
+use Rattle.dp_small_steps.specs.declared.work.Given.TheVariants as given
+use Rattle.dp_small_steps.specs.declared.work.Hand.TheVariants as hand
+use Rattle.dp_small_steps.specs.declared.work.Waiting.{Waiting}
+use Rattle.dp_small_steps.specs.declared.work.Waiting.TheVariants as waiting
+use Rattle.dp_small_steps.specs.Rest.{hand_rest, waiting_rest}
+use Rattle.dp_small_steps.specs.Parts.{Follows}
 
 -- ---- all that a machine has to do
 

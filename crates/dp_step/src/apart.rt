@@ -6,10 +6,9 @@ ghost use Rattle.dp_step.specs.inner.Apart.{value_in};
 
 use crate::machine::{Came, Machine, Progress};
 use dp_actions::Signal;
-use dp_meaning::is_momentless;
+use dp_analysis::is_momentless;
+use dp_small_steps::{AfterValue, Given, Hand, Waiting, Work};
 use dp_state::{FRAME_LIMIT, MomentKind, State};
-use dp_step_parts::{Given, Hand as PartHand};
-use dp_step_statements::{AfterValue, Hand, Waiting, Work};
 use dp_tree::{Bundle, Expression};
 use dp_value::{Memory, Value};
 use std::alloc::Global;
@@ -107,7 +106,7 @@ impl<'p> Machine<'p> {
             (evaluation e.now (setting_at self.old) self.old.state)) answer self.new.state) }
     {
         let item = Waiting::Part(Work::AfterValue(AfterValue::ReturnIt));
-        self.hold_both(Hand::Part(PartHand::Evaluate(e)), item)?;
+        self.hold_both(Hand::Evaluate(e), item)?;
         self.give_back()
     }
 
@@ -164,7 +163,7 @@ impl<'p> Machine<'p> {
         ensures kept { (self.new.state ≡ self.old.state) × (self.new.bound ≡ self.old.bound) }
     {
         match mem::replace(&mut self.hand, Hand::Failed) {
-            Hand::Part(PartHand::Give(given)) => value_given(given),
+            Hand::Give(given) => value_given(given),
             hand => {
                 drop(hand);
                 None

@@ -2,9 +2,8 @@
 
 use crate::machine::{Came, Machine, halted};
 use dp_actions::{Callee, Signal, look_up, returned};
-use dp_meaning::{all_momentless, is_momentless};
-use dp_step_parts::{Given, Hand as PartHand};
-use dp_step_statements::Hand;
+use dp_analysis::{all_momentless, is_momentless};
+use dp_small_steps::{Given, Hand};
 use dp_tree::Expression;
 use dp_value::{Bytes, Items, Value};
 
@@ -12,14 +11,16 @@ impl<'p> Machine<'p> {
     ghost use Rattle.std.specs.Prelude.{◌≡◌, true};
     ghost use Rattle.std.specs.List.{list_all};
     ghost use Rattle.dp_tree.specs.declared.tree.Expression.TheVariants as any_expression;
-    ghost use Rattle.dp_meaning.specs.Momentless.{is_momentless as has_no_moment};
-    ghost use Rattle.dp_step.specs.inner.Moves.{Moves, rest_with};
-    ghost use Rattle.dp_step_parts.specs.declared.work.Hand.TheVariants as any_part;
-    ghost use Rattle.dp_step_statements.specs.declared.work.Hand.TheVariants as any_hand;
+    ghost use Rattle.dp_analysis.specs.Still.{is_momentless as has_no_moment};
+    ghost use Rattle.dp_actions.specs.Bodies.{returned as value_returned};
+    ghost use Rattle.dp_state.specs.States.{left as state_left};
+    ghost use Rattle.dp_small_steps.specs.Parts.{to_value};
+    ghost use Rattle.dp_step.specs.inner.Moves.{Moves, follows_of, rest_with};
+    ghost use Rattle.dp_small_steps.specs.declared.work.Hand.TheVariants as any_hand;
 
     /// A small step with an expression. One in which no moment can come is evaluated whole.
     pub(crate) fn evaluate_whole(&mut self, e: &'p Expression) -> Came
-        ensures { Moves self.old (rest_with self.old (any_hand.Part (any_part.Evaluate e.entry)) self.old.state) result
+        ensures { Moves self.old (rest_with self.old (any_hand.Evaluate e.entry) self.old.state) result
             self.new }
     {
         if !is_momentless(e) {
@@ -33,7 +34,7 @@ impl<'p> Machine<'p> {
 
     /// A small step with an expression in which a moment may come.
     fn evaluate_parts(&mut self, e: &'p Expression) -> Came
-        ensures { Moves self.old (rest_with self.old (any_hand.Part (any_part.Evaluate e.entry)) self.old.state) result
+        ensures { Moves self.old (rest_with self.old (any_hand.Evaluate e.entry) self.old.state) result
             self.new }
     {
         match e {
@@ -41,10 +42,10 @@ impl<'p> Machine<'p> {
                 if all_momentless(arguments.as_slice()) {
                     self.call_named(e, name, arguments)
                 } else {
-                    self.first(Hand::Part(PartHand::Evaluate(e)))
+                    self.first(Hand::Evaluate(e))
                 }
             }
-            _ => self.first(Hand::Part(PartHand::Evaluate(e))),
+            _ => self.first(Hand::Evaluate(e)),
         }
     }
 
@@ -57,7 +58,7 @@ impl<'p> Machine<'p> {
     ) -> Came
         requires momentless { list_all has_no_moment arguments.now ≡ true }
         requires is_call { e.now ≡ any_expression.Call name.now arguments.now }
-        ensures { Moves self.old (rest_with self.old (any_hand.Part (any_part.Evaluate e.entry)) self.old.state) result
+        ensures { Moves self.old (rest_with self.old (any_hand.Evaluate e.entry) self.old.state) result
             self.new }
     {
         match look_up(self.bundle, name, &self.state) {
@@ -67,15 +68,17 @@ impl<'p> Machine<'p> {
                     Err(why) => halted(why),
                 }
             }
-            _ => self.first(Hand::Part(PartHand::Evaluate(e))),
+            _ => self.first(Hand::Evaluate(e)),
         }
     }
 
-    /// A call whose body is done has left.
-    pub(crate) fn left(&mut self, signal: Signal) -> Came
-        ensures { Moves self.old (rest_with self.old (any_hand.Left signal) self.old.state) result self.new }
+    /// The frame of a call or a file that is done goes. It gives what its statements gave, or this where that is
+    /// nothing.
+    pub(crate) fn left(&mut self, none: Value, signal: Signal) -> Came
+        ensures { Moves self.old (to_value (follows_of self.old) (value_returned none signal)
+            (state_left self.old.state)) result self.new }
     {
         self.state.leave();
-        self.take(Given::Value(returned(Value::Null, signal)))
+        self.take(Given::Value(returned(none, signal)))
     }
 }

@@ -1,23 +1,20 @@
 //! What is in hand that may be run whole: a statement, or turns of a loop, that comes to no deep call.
 
-ghost use Rattle.std.specs.Prelude.{◌≡◌, ◌||◌, false, not, slice_get};
-ghost use Rattle.std.specs.Option.{option_map_or};
-ghost use Rattle.dp_depth.specs.Depth.{any_deep as comes_deep, is_named, statement_is_deep as is_deep_statement};
-ghost use Rattle.dp_step_statements.specs.Rest.{after_of, tests_of};
+ghost use Rattle.std.specs.Prelude.{◌≡◌, ◌||◌};
+ghost use Rattle.dp_analysis.specs.Depth.{any_deep as comes_deep};
+ghost use Rattle.dp_analysis.specs.Still.{is_named};
+ghost use Rattle.dp_small_steps.specs.Rest.{after_of, tests_of};
 ghost use Rattle.dp_step.specs.inner.Shallow.{runs_whole};
 
-use dp_depth::{DeepNames, any_deep, is_deep, statement_is_deep};
-use dp_step_statements::{Hand, Head};
-use dp_tree::Statement;
-use dp_value::Items;
+use dp_analysis::{DeepNames, any_deep, is_deep, statement_is_deep};
+use dp_small_steps::{Hand, Head};
 
 /// Whether what is in hand is a statement or turns of a loop, and may not come to a deep call.
 pub(crate) fn is_run_whole<'p>(deep: &DeepNames<'p>, hand: &Hand<'p>) -> bool
     ensures { result ≡ runs_whole (is_named deep.now) hand.now }
 {
     match hand {
-        Hand::Run(statement) => !statement_is_deep(deep, statement.as_ref()),
-        Hand::RunAt(all, at) => is_shallow_at(deep, all, *at),
+        Hand::Run(statement) => !statement_is_deep(deep, statement),
         Hand::Turn(turns, _) => {
             !head_is_deep(deep, &turns.head) && !statement_is_deep(deep, turns.body.as_ref())
         }
@@ -26,17 +23,6 @@ pub(crate) fn is_run_whole<'p>(deep: &DeepNames<'p>, hand: &Hand<'p>) -> bool
         }
         Hand::EachTurn(turns, _, _) => !statement_is_deep(deep, turns.body.as_ref()),
         _ => false,
-    }
-}
-
-/// Whether there is a statement at a position, which may not come to a deep call.
-fn is_shallow_at<'p>(deep: &DeepNames<'p>, all: &'p Items<Statement>, at: usize) -> bool
-    ensures { result ≡ option_map_or (λ s. not (is_deep_statement (is_named deep.now) s))
-        (slice_get all.now at) false }
-{
-    match all.as_slice().get(at) {
-        Some(statement) => !statement_is_deep(deep, statement),
-        None => false,
     }
 }
 

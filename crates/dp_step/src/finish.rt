@@ -7,25 +7,23 @@ use crate::machine::{Came, Machine, Progress};
 use crate::small::put_hand;
 use crate::steps::Steps;
 use dp_actions::{Halt, Signal};
-use dp_depth::DeepNames;
+use dp_analysis::DeepNames;
 use dp_meaning::Whole;
+use dp_small_steps::{DoTurns, EachTurns, Given, Hand, Head, Turns};
 use dp_state::Outcome;
-use dp_step_parts::{Given, Hand as PartHand};
-use dp_step_statements::{DoTurns, EachTurns, Hand, Head, Turns};
-use dp_tree::Statement;
-use dp_value::{Items, Memory, Value};
+use dp_value::{Memory, Value};
 use std::sync::ledger::Ledger;
 use std::{mem, slice};
 
 impl<'p> Machine<'p> {
     ghost use Rattle.std.specs.Prelude.{◌≡◌, ◌+◌, ℕ, List, length, true, IfOk, OnErr, OnOk};
-    ghost use Rattle.dp_depth.specs.Depth.{is_named};
+    ghost use Rattle.dp_analysis.specs.Still.{is_named};
     ghost use Rattle.dp_tree.specs.declared.bundle.Bundle.{Bundle as SomeBundle};
     ghost use Rattle.dp_meaning.specs.declared.writes.NumberedWrite.{NumberedWrite};
     ghost use Rattle.dp_meaning.specs.Trace.{outcome, program_trace};
     ghost use Rattle.dp_state.specs.declared.moments.Outcome.{Outcome as SomeOutcome};
     ghost use Rattle.dp_step.specs.Stands.{HasEnded, HasFailed, StandsFor, rest_of};
-    ghost use Rattle.dp_step_statements.specs.declared.work.Hand.TheVariants as any_hand;
+    ghost use Rattle.dp_small_steps.specs.declared.work.Hand.TheVariants as any_hand;
     ghost use Rattle.dp_actions.specs.declared.signal.Signal.{Signal as AnySignal};
     ghost use Rattle.dp_actions.specs.Setting.{Part};
     ghost use Rattle.dp_state.specs.declared.state.State.{State as AnyState};
@@ -110,32 +108,13 @@ impl<'p> Machine<'p> {
     {
         match mem::replace(&mut self.hand, Hand::Failed) {
             Hand::Run(statement) => {
-                let done = self.whole().statement(statement.as_ref(), &mut self.state);
+                let done = self.whole().statement(statement, &mut self.state);
                 self.gave(done)
             }
-            Hand::RunAt(all, at) => self.statement_at(all, at),
             Hand::Turn(turns, left) => self.turns(turns, left),
             Hand::DoTurn(turns, left) => self.do_turns(turns, left),
             Hand::EachTurn(turns, subject, at) => self.entries(turns, subject, at),
             hand => self.other(hand),
-        }
-    }
-
-    /// The statement at a position.
-    fn statement_at(
-        &mut self,
-        all: &'p Items<Statement>,
-        at: usize,
-    ) -> Result<Option<Outcome>, Memory>
-        ensures { IfOk result (λ end. Leaps self.old
-            (rest_with self.old (any_hand.RunAt all.entry at) self.old.state) end self.new) }
-    {
-        match all.as_slice().get(at) {
-            None => self.other(Hand::RunAt(all, at)),
-            Some(statement) => {
-                let done = self.whole().statement(statement, &mut self.state);
-                self.gave(done)
-            }
         }
     }
 
@@ -219,7 +198,7 @@ impl<'p> Machine<'p> {
         match done {
             Ok(signal) => {
                 let given = Given::Signal(signal);
-                put_hand(&mut self.hand, Hand::Part(PartHand::Give(given)));
+                put_hand(&mut self.hand, Hand::Give(given));
                 Ok(None)
             }
             Err(Halt::Finished(outcome)) => Ok(Some(outcome)),
@@ -243,7 +222,7 @@ impl<'p> Machine<'p> {
         ensures { Moves self.old (rest_of self.old self.old.state) result self.new }
     {
         match &self.hand {
-            Hand::Part(PartHand::Give(Given::Signal(Signal::Next))) => self.small(),
+            Hand::Give(Given::Signal(Signal::Next)) => self.small(),
             _ => self.go(),
         }
     }

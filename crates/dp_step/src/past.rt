@@ -8,10 +8,10 @@ use crate::finish::risen;
 use crate::machine::{Arrival, Came, Machine, Progress, halted};
 use crate::small::put_hand;
 use crate::steps::Steps;
-use dp_quiet::{DeepNames, is_quiet, loud_names};
+use dp_analysis::{DeepNames, loud_names};
+use dp_meaning::is_quiet;
+use dp_small_steps::{Given, Hand};
 use dp_state::Outcome;
-use dp_step_parts::{Given, Hand as PartHand};
-use dp_step_statements::Hand;
 use dp_tree::Statement;
 use dp_value::Memory;
 use std::sync::ledger::Ledger;
@@ -21,7 +21,7 @@ impl<'p> Machine<'p> {
     ghost use Rattle.std.specs.Option.{option_copied};
     ghost use Rattle.dp_tree.specs.declared.bundle.Bundle.{Bundle as SomeBundle};
     ghost use Rattle.dp_meaning.specs.declared.writes.NumberedWrite.{NumberedWrite};
-    ghost use Rattle.dp_quiet.specs.Quiet.{AreLoud};
+    ghost use Rattle.dp_analysis.specs.Quiet.{AreLoud};
     ghost use Rattle.dp_step.specs.Past.{GoesPast};
     ghost use Rattle.dp_step.specs.Stands.{HasFailed, Leaves, StandsFor};
     ghost use Rattle.dp_step.specs.inner.Passing.{Approaches, Gets, IsInHand, Nears};
@@ -120,7 +120,7 @@ impl<'p> Machine<'p> {
         match done {
             Ok(signal) => {
                 let given = Given::Signal(signal);
-                put_hand(&mut self.hand, Hand::Part(PartHand::Give(given)));
+                put_hand(&mut self.hand, Hand::Give(given));
                 Came::On
             }
             Err(why) => halted(why),
@@ -137,11 +137,7 @@ fn quiet_in<'p>(
     ensures { IfSome result (λ statement. IsInHand lines.now (option_copied loud.entry) hand.now statement.now) }
 {
     match hand {
-        Hand::Run(statement) => if_quiet(lines, loud, statement.as_ref()),
-        Hand::RunAt(all, at) => match all.as_slice().get(*at) {
-            Some(statement) => if_quiet(lines, loud, statement),
-            None => None,
-        },
+        Hand::Run(statement) => if_quiet(lines, loud, statement),
         _ => None,
     }
 }

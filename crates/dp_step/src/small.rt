@@ -7,18 +7,17 @@ ghost use Rattle.dp_actions.specs.Run.{and_then};
 ghost use Rattle.dp_actions.specs.Setting.{Setting};
 ghost use Rattle.dp_actions.specs.Statements.{body_run};
 ghost use Rattle.dp_state.specs.States.{line_of};
-ghost use Rattle.dp_step_statements.specs.Rest.{behind, hand_rest, waiting_rest};
-ghost use Rattle.dp_step_parts.specs.Rest.{Follows, to_signal};
-ghost use Rattle.dp_step_statements.specs.declared.work.Waiting.TheVariants as any_waiting;
+ghost use Rattle.dp_small_steps.specs.Rest.{behind, hand_rest, waiting_rest};
+ghost use Rattle.dp_small_steps.specs.Parts.{Follows, to_signal};
+ghost use Rattle.dp_small_steps.specs.declared.work.Waiting.TheVariants as any_waiting;
 ghost use Rattle.dp_step.specs.inner.Moves.{came_to, ends_call as call_ends, leave_if};
-ghost use Rattle.dp_step_statements.specs.declared.work.Hand.TheVariants as any_hand;
+ghost use Rattle.dp_small_steps.specs.declared.work.Hand.TheVariants as any_hand;
 
 use crate::machine::{Came, Machine, halted};
 use dp_actions::{Signal, enter_call, enter_file, fatal};
-use dp_meaning::all_momentless;
+use dp_analysis::all_momentless;
+use dp_small_steps::{Given, Hand, Next, Small, Waiting, Work, first_of, receive};
 use dp_state::{FatalKind, MomentKind};
-use dp_step_parts::{Given, Hand as PartHand};
-use dp_step_statements::{Hand, Next, Small, Waiting, Work, first_of, receive};
 use dp_tree::{Bundle, Expression, Function};
 use dp_value::{Items, Memory, Value};
 use std::mem;
@@ -26,10 +25,9 @@ use std::mem;
 impl<'p> Machine<'p> {
     ghost use Rattle.std.specs.Prelude.{◌≡◌, ◌++◌, ◌∷◌, [], ◌<◌, true, OnOk};
     ghost use Rattle.std.specs.List.{list_all};
-    ghost use Rattle.dp_meaning.specs.Momentless.{is_momentless as has_no_moment};
+    ghost use Rattle.dp_analysis.specs.Still.{is_momentless as has_no_moment};
     ghost use Rattle.dp_state.specs.declared.state.State.{State as AnyState};
     ghost use Rattle.dp_step.specs.Stands.{rest_of};
-    ghost use Rattle.dp_step_parts.specs.declared.work.Hand.TheVariants as any_part;
     ghost use Rattle.dp_step.specs.inner.Moves.{Moves, body_with, end_with, file_with, next_with, rest_with};
     ghost use Rattle.dp_step.specs.inner.Moves.{small_with, work_with};
 
@@ -38,42 +36,33 @@ impl<'p> Machine<'p> {
         ensures { Moves self.old (rest_of self.old self.old.state) result self.new }
     {
         match mem::replace(&mut self.hand, Hand::Failed) {
-            Hand::Part(part) => self.part(part),
+            Hand::Give(given) => self.take(given),
+            Hand::Values(before, all, at) => self.values_whole(before, all, at),
             Hand::Call(file, function, values) => self.call(file, function, values),
             Hand::Include(file) => self.include(file),
-            Hand::Left(signal) => self.left(signal),
+            Hand::Left(signal) => self.left(Value::Null, signal),
+            Hand::LeftFile(signal) => self.left(Value::Int(1), signal),
             hand => self.first(hand),
-        }
-    }
-
-    /// A small step with a part of an expression that was in hand.
-    fn part(&mut self, part: PartHand<'p>) -> Came
-        ensures { Moves self.old (rest_with self.old (any_hand.Part part.entry) self.old.state) result self.new }
-    {
-        match part {
-            PartHand::Give(given) => self.take(given),
-            PartHand::Values(before, all, at) => self.values_whole(before, all, at),
-            part => self.first(Hand::Part(part)),
         }
     }
 
     /// A small step with expressions that are left. All of them are evaluated whole where no moment can come in them.
     fn values_whole(&mut self, before: Items<Value>, all: &'p Items<Expression>, at: usize) -> Came
-        ensures { Moves self.old (rest_with self.old (any_hand.Part (any_part.Values before all.entry at))
+        ensures { Moves self.old (rest_with self.old (any_hand.Values before all.entry at)
             self.old.state) result self.new }
     {
         if at == 0 && before.as_slice().is_empty() && all_momentless(all.as_slice()) {
             drop(before);
             self.values_at_once(all)
         } else {
-            self.first(Hand::Part(PartHand::Values(before, all, at)))
+            self.first(Hand::Values(before, all, at))
         }
     }
 
     /// A small step with expressions in which no moment can come.
     fn values_at_once(&mut self, all: &'p Items<Expression>) -> Came
         requires { list_all has_no_moment all.now ≡ true }
-        ensures { Moves self.old (rest_with self.old (any_hand.Part (any_part.Values [] all.entry 0)) self.old.state)
+        ensures { Moves self.old (rest_with self.old (any_hand.Values [] all.entry 0) self.old.state)
             result self.new }
     {
         match self.whole().values(all.as_slice(), &mut self.state) {
@@ -86,7 +75,7 @@ impl<'p> Machine<'p> {
     pub(crate) fn first(&mut self, hand: Hand<'p>) -> Came
         ensures { Moves self.old (rest_with self.old hand.entry self.old.state) result self.new }
     {
-        match first_of(self.alloc, self.bundle, self.bound, hand, &mut self.state) {
+        match first_of(self.alloc, self.bundle, hand, &mut self.state) {
             Ok(small) => self.keep(small),
             Err(why) => halted(why),
         }
@@ -94,12 +83,12 @@ impl<'p> Machine<'p> {
 
     /// Something is given to the innermost item of the pending work.
     pub(crate) fn take(&mut self, given: Given) -> Came
-        ensures { Moves self.old (rest_with self.old (any_hand.Part (any_part.Give given)) self.old.state) result
+        ensures { Moves self.old (rest_with self.old (any_hand.Give given) self.old.state) result
             self.new }
     {
         match self.pending.pop() {
             None => {
-                put_hand(&mut self.hand, Hand::Part(PartHand::Give(given)));
+                put_hand(&mut self.hand, Hand::Give(given));
                 Came::Done
             }
             Some(Waiting::Part(work)) => self.pass(work, given),
@@ -275,8 +264,8 @@ fn call_hand<'p>(given: Given) -> Hand<'p>
 {
     match given {
         Given::Signal(signal) => Hand::Left(signal),
-        Given::Value(value) => Hand::Part(PartHand::Give(Given::Value(value))),
-        Given::Values(values) => Hand::Part(PartHand::Give(Given::Values(values))),
+        Given::Value(value) => Hand::Give(Given::Value(value)),
+        Given::Values(values) => Hand::Give(Given::Values(values)),
     }
 }
 
@@ -287,8 +276,8 @@ fn file_left<'p>(given: Given) -> Hand<'p>
 {
     match given {
         Given::Signal(signal) => Hand::LeftFile(signal),
-        Given::Value(value) => Hand::Part(PartHand::Give(Given::Value(value))),
-        Given::Values(values) => Hand::Part(PartHand::Give(Given::Values(values))),
+        Given::Value(value) => Hand::Give(Given::Value(value)),
+        Given::Values(values) => Hand::Give(Given::Values(values)),
     }
 }
 
@@ -315,6 +304,6 @@ pub(crate) fn file_hand<'p>(bundle: &'p Bundle, file: u32) -> Hand<'p>
 {
     match bundle.files.as_slice().get(file as usize) {
         Some(file) => Hand::Each(&file.tree.body, 0),
-        None => Hand::Part(PartHand::Give(Given::Signal(Signal::Next))),
+        None => Hand::Give(Given::Signal(Signal::Next)),
     }
 }

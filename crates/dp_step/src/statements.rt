@@ -2,19 +2,12 @@
 //! next is written where it stands. A function has no large local, since each is cleared where the function begins,
 //! whichever way it goes.
 
-ghost use Rattle.std.specs.Prelude.{◌≡◌, IfSome, true};
-ghost use Rattle.dp_actions.specs.declared.signal.Signal.TheVariants.{Next as NextSignal};
-ghost use Rattle.dp_step_parts.specs.declared.work.Given.TheVariants as any_given;
-ghost use Rattle.dp_step_parts.specs.declared.work.Hand.TheVariants as any_part;
-ghost use Rattle.dp_step_statements.specs.declared.work.Hand.TheVariants as any_hand;
-
 use crate::machine::{Came, Machine, halted};
 use crate::small::put_hand;
 use dp_actions::{Signal, holds};
-use dp_meaning::is_momentless;
+use dp_analysis::is_momentless;
+use dp_small_steps::{AfterValue, ForSignal, Given, Hand, Waiting, Work, begin};
 use dp_state::MomentKind;
-use dp_step_parts::{Given, Hand as PartHand};
-use dp_step_statements::{AfterValue, ForSignal, Hand, Waiting, Work, begin};
 use dp_tree::{Arm, Boxed, Expression, Statement, StatementKind};
 use dp_value::{Items, Value};
 
@@ -22,14 +15,12 @@ impl<'p> Machine<'p> {
     ghost use Rattle.std.specs.Prelude.{[], Some};
     ghost use Rattle.dp_actions.specs.Run.{At};
     ghost use Rattle.dp_actions.specs.Statements.{return_run, statement_run};
-    ghost use Rattle.dp_actions.specs.declared.signal.Signal.TheVariants.{Next as NextSignal};
     ghost use Rattle.dp_state.specs.declared.moments.MomentKind.TheVariants as any_moment;
     ghost use Rattle.dp_step.specs.Stands.{rest_of};
     ghost use Rattle.dp_step.specs.inner.Leaps.{part_with};
     ghost use Rattle.dp_step.specs.inner.Moves.{Moves, next_with, rest_with};
-    ghost use Rattle.dp_step_parts.specs.declared.work.Given.TheVariants as any_given;
-    ghost use Rattle.dp_step_statements.specs.Rest.{arms_part};
-    ghost use Rattle.dp_step_statements.specs.declared.work.Hand.TheVariants as any_hand;
+    ghost use Rattle.dp_small_steps.specs.Rest.{arms_part};
+    ghost use Rattle.dp_small_steps.specs.declared.work.Hand.TheVariants as any_hand;
 
     /// A small step.
     pub(crate) fn go(&mut self) -> Came
@@ -60,48 +51,25 @@ impl<'p> Machine<'p> {
         }
     }
 
-    /// A small step by the statement that is in hand, if one is.
+    /// A small step by the statement or the expression that is in hand, if one is.
     fn go_by_statement(&mut self) -> Came
         ensures { Moves self.old (rest_of self.old self.old.state) result self.new }
     {
         match &self.hand {
             Hand::Run(statement) => {
                 let statement = *statement;
-                self.begin(statement.as_ref())
-            }
-            Hand::RunAt(all, at) => {
-                let all = *all;
-                let at = *at;
-                self.begin_at(all, at)
-            }
-            Hand::RunArm(all, at) => {
-                let all = *all;
-                let at = *at;
-                self.begin_arm(all, at)
+                self.begin(statement)
             }
             Hand::Each(all, at) => {
                 let all = *all;
                 let at = *at;
                 self.each(all, at)
             }
-            Hand::Part(_) => self.go_by_part(),
-            _ => self.small(),
-        }
-    }
-
-    /// A small step by the part of an expression that is in hand.
-    fn go_by_part(&mut self) -> Came
-        ensures { Moves self.old (rest_of self.old self.old.state) result self.new }
-    {
-        match expression_in(&self.hand) {
-            Some(e) => self.evaluate_whole(e),
-            None => {
-                if is_next(&self.hand) {
-                    self.on()
-                } else {
-                    self.small()
-                }
+            Hand::Evaluate(e) => {
+                let e = *e;
+                self.evaluate_whole(e)
             }
+            _ => self.small(),
         }
     }
 
@@ -155,7 +123,7 @@ impl<'p> Machine<'p> {
         match value {
             None => {
                 let given = Given::Signal(Signal::Return(Value::Null));
-                self.placed(line, Hand::Part(PartHand::Give(given)))
+                self.placed(line, Hand::Give(given))
             }
             Some(e) => self.placed(line, Hand::Returning(e)),
         }
@@ -168,38 +136,18 @@ impl<'p> Machine<'p> {
         self.keep(begin(self.alloc, self.bound, statement))
     }
 
-    /// The statement at a position.
-    fn begin_at(&mut self, all: &'p Items<Statement>, at: usize) -> Came
-        ensures { Moves self.old (rest_with self.old (any_hand.RunAt all.entry at) self.old.state) result self.new }
-    {
-        match all.as_slice().get(at) {
-            None => self.on(),
-            Some(statement) => self.begin(statement),
-        }
-    }
-
-    /// The body of the arm at a position.
-    fn begin_arm(&mut self, all: &'p Items<Arm>, at: usize) -> Came
-        ensures { Moves self.old (rest_with self.old (any_hand.RunArm all.entry at) self.old.state) result self.new }
-    {
-        match all.as_slice().get(at) {
-            None => self.on(),
-            Some(arm) => self.begin(&arm.body),
-        }
-    }
-
     /// Statements from a position on, one after another. Nothing waits for the last of them.
     fn each(&mut self, all: &'p Items<Statement>, at: usize) -> Came
         ensures { Moves self.old (rest_with self.old (any_hand.Each all.entry at) self.old.state) result self.new }
     {
         match all.as_slice().get(at) {
             None => self.on(),
-            Some(_) => {
+            Some(first) => {
                 if at + 1 < all.as_slice().len() {
                     let rest = ForSignal::Rest(all, at + 1);
-                    self.wait(Hand::RunAt(all, at), Work::ForSignal(rest))
+                    self.wait(Hand::Run(first), Work::ForSignal(rest))
                 } else {
-                    self.put(Hand::RunAt(all, at))
+                    self.put(Hand::Run(first))
                 }
             }
         }
@@ -227,7 +175,7 @@ impl<'p> Machine<'p> {
     {
         match otherwise {
             None => self.on(),
-            Some(statement) => self.put(Hand::Run(statement)),
+            Some(statement) => self.put(Hand::Run(statement.as_ref())),
         }
     }
 
@@ -245,12 +193,15 @@ impl<'p> Machine<'p> {
             None => self.on(),
             Some(first) => {
                 if !is_momentless(&first.test) {
-                    return self.first(Hand::Choose(all, at, otherwise));
+                    return self.wait(
+                        Hand::Evaluate(&first.test),
+                        Work::AfterValue(AfterValue::Branch(all, at, otherwise)),
+                    );
                 }
                 match self.whole().value(&first.test, &mut self.state) {
                     Ok(value) => {
                         if holds(value) {
-                            self.put(Hand::RunArm(all, at))
+                            self.put(Hand::Run(&first.body))
                         } else {
                             self.arms(all, at + 1, otherwise)
                         }
@@ -266,10 +217,7 @@ impl<'p> Machine<'p> {
         ensures { Moves self.old (rest_with self.old (any_hand.Effect e.entry) self.old.state) result self.new }
     {
         if !is_momentless(e) {
-            return self.wait(
-                Hand::Part(PartHand::Evaluate(e)),
-                Work::AfterValue(AfterValue::Discard),
-            );
+            return self.wait(Hand::Evaluate(e), Work::AfterValue(AfterValue::Discard));
         }
         match self.whole().value(e, &mut self.state) {
             Ok(value) => {
@@ -285,64 +233,11 @@ impl<'p> Machine<'p> {
         ensures { Moves self.old (rest_with self.old (any_hand.Returning e.entry) self.old.state) result self.new }
     {
         if !is_momentless(e) {
-            return self.wait(
-                Hand::Part(PartHand::Evaluate(e)),
-                Work::AfterValue(AfterValue::ReturnIt),
-            );
+            return self.wait(Hand::Evaluate(e), Work::AfterValue(AfterValue::ReturnIt));
         }
         match self.whole().value(e, &mut self.state) {
             Ok(value) => self.take(Given::Signal(Signal::Return(value))),
             Err(why) => halted(why),
         }
-    }
-}
-
-/// The expression that is in hand, if one is.
-fn expression_in<'p>(hand: &Hand<'p>) -> Option<&'p Expression>
-    ensures { IfSome result (λ e. hand.now ≡ any_hand.Part (any_part.Evaluate e)) }
-{
-    match hand {
-        Hand::Part(part) => evaluated_by(part),
-        _ => None,
-    }
-}
-
-/// The expression that is evaluated, if one is.
-fn evaluated_by<'p>(part: &PartHand<'p>) -> Option<&'p Expression>
-    ensures { IfSome result (λ e. part.now ≡ any_part.Evaluate e) }
-{
-    match part {
-        PartHand::Evaluate(e) => Some(*e),
-        _ => None,
-    }
-}
-
-/// Whether the signal to go on is in hand.
-fn is_next(hand: &Hand<'_>) -> bool
-    ensures { result ≡ true → hand.now ≡ any_hand.Part (any_part.Give (any_given.Signal NextSignal)) }
-{
-    match hand {
-        Hand::Part(part) => is_next_given(part),
-        _ => false,
-    }
-}
-
-/// Whether that is given.
-fn is_next_given(part: &PartHand<'_>) -> bool
-    ensures { result ≡ true → part.now ≡ any_part.Give (any_given.Signal NextSignal) }
-{
-    match part {
-        PartHand::Give(given) => is_next_signal(given),
-        _ => false,
-    }
-}
-
-/// Whether it is that.
-fn is_next_signal(given: &Given) -> bool
-    ensures { result ≡ true → given.now ≡ any_given.Signal NextSignal }
-{
-    match given {
-        Given::Signal(signal) => matches!(signal, Signal::Next),
-        _ => false,
     }
 }

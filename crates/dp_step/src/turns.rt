@@ -2,22 +2,21 @@
 //! it is, and its numbers are changed where they stand. A function has no large local, as in the steps with statements.
 
 ghost use Rattle.std.specs.Prelude.{◌≡◌, ℕ, Bool, List};
-ghost use Rattle.dp_step_statements.specs.declared.work.DoTurns.{DoTurns as AnyDoTurns};
-ghost use Rattle.dp_step_statements.specs.declared.work.EachTurns.{EachTurns as AnyEachTurns};
-ghost use Rattle.dp_step_statements.specs.declared.work.ForSignal.TheVariants as any_signal_work;
-ghost use Rattle.dp_step_statements.specs.declared.work.Turns.{Turns as AnyTurns};
-ghost use Rattle.dp_step_statements.specs.declared.work.Waiting.{Waiting as AnyWaiting};
+ghost use Rattle.dp_small_steps.specs.declared.work.DoTurns.{DoTurns as AnyDoTurns};
+ghost use Rattle.dp_small_steps.specs.declared.work.EachTurns.{EachTurns as AnyEachTurns};
+ghost use Rattle.dp_small_steps.specs.declared.work.ForSignal.TheVariants as any_signal_work;
+ghost use Rattle.dp_small_steps.specs.declared.work.Turns.{Turns as AnyTurns};
+ghost use Rattle.dp_small_steps.specs.declared.work.Waiting.{Waiting as AnyWaiting};
 ghost use Rattle.dp_step.specs.inner.Innermost.{StatementList, waiting_for, waits_for};
 ghost use Rattle.dp_value.specs.declared.value.Value.{Value as AnyValue};
 
 use crate::machine::{Came, Machine, halted};
 use dp_actions::{Signal, holds, last_holds};
-use dp_meaning::{all_momentless, is_momentless};
-use dp_state::Outcome;
-use dp_step_parts::{Given, Hand as PartHand};
-use dp_step_statements::{
-    DoTurns, EachTurns, ForSignal, Hand, Head, Turns, Waiting, Work, bind_at, entry_count,
+use dp_analysis::{all_momentless, is_momentless};
+use dp_small_steps::{
+    DoTurns, EachTurns, ForSignal, Given, Hand, Head, Turns, Waiting, Work, bind_at, entry_count,
 };
+use dp_state::Outcome;
 use dp_tree::{Expression, Statement};
 use dp_value::Items;
 
@@ -29,15 +28,15 @@ impl<'p> Machine<'p> {
     ghost use Rattle.dp_actions.specs.Run.{and_then};
     ghost use Rattle.dp_actions.specs.Values.{holds as is_true};
     ghost use Rattle.dp_actions.specs.declared.signal.Signal.TheVariants.{Next as NextSignal};
-    ghost use Rattle.dp_meaning.specs.Momentless.{is_momentless as has_no_moment};
+    ghost use Rattle.dp_analysis.specs.Still.{is_momentless as has_no_moment};
     ghost use Rattle.dp_step.specs.inner.Moves.{Moves, follows_of, setting_at};
     ghost use Rattle.dp_step.specs.inner.Innermost.{IsEachBody, IsInnermost, over, waits_for};
-    ghost use Rattle.dp_step_parts.specs.Rest.{to_signal};
-    ghost use Rattle.dp_step_parts.specs.declared.work.Given.TheVariants as any_given;
-    ghost use Rattle.dp_step_statements.specs.Rest.{do_decided, do_turns_of, each_turn};
-    ghost use Rattle.dp_step_statements.specs.Rest.{turns_decided, turns_of, turns_tested};
-    ghost use Rattle.dp_step_statements.specs.declared.work.ForSignal.TheVariants as any_signal_work;
-    ghost use Rattle.dp_step_statements.specs.declared.work.Waiting.{Waiting as AnyWaiting};
+    ghost use Rattle.dp_small_steps.specs.Parts.{to_signal};
+    ghost use Rattle.dp_small_steps.specs.declared.work.Given.TheVariants as any_given;
+    ghost use Rattle.dp_small_steps.specs.Rest.{do_decided, do_turns_of, each_turn};
+    ghost use Rattle.dp_small_steps.specs.Rest.{turns_decided, turns_of, turns_tested};
+    ghost use Rattle.dp_small_steps.specs.declared.work.ForSignal.TheVariants as any_signal_work;
+    ghost use Rattle.dp_small_steps.specs.declared.work.Waiting.{Waiting as AnyWaiting};
     ghost use Rattle.dp_value.specs.declared.value.Value.{Value as AnyValue};
 
     /// On with what waits.
@@ -77,7 +76,7 @@ impl<'p> Machine<'p> {
     fn next(&mut self) -> Came
         ensures { Moves self.old (follows_of self.old (any_given.Signal NextSignal) self.old.state) result self.new }
     {
-        self.put(Hand::Part(PartHand::Give(Given::Signal(Signal::Next))))
+        self.put(Hand::Give(Given::Signal(Signal::Next)))
     }
 
     /// The statement at a position, and then those behind it. Nothing waits for the last of them.
@@ -90,13 +89,13 @@ impl<'p> Machine<'p> {
                 drop(self.pending.pop());
                 self.next()
             }
-            Some(_) => {
+            Some(first) => {
                 if at + 1 < all.as_slice().len() {
                     put_position(&mut self.pending, at + 1);
-                    self.put(Hand::RunAt(all, at))
+                    self.put(Hand::Run(first))
                 } else {
                     drop(self.pending.pop());
-                    self.put(Hand::RunAt(all, at))
+                    self.put(Hand::Run(first))
                 }
             }
         }
@@ -184,7 +183,7 @@ impl<'p> Machine<'p> {
     {
         if held {
             put_turn(&mut self.pending, left, false);
-            self.put(Hand::Run(turns.body))
+            self.put(Hand::Run(turns.body.as_ref()))
         } else {
             drop(self.pending.pop());
             self.next()
@@ -259,10 +258,7 @@ impl<'p> Machine<'p> {
             Came::Over(Outcome::Bound)
         } else {
             put_turn(&mut self.pending, left - 1, true);
-            self.placed(
-                turns.line,
-                Hand::Part(PartHand::Give(Given::Signal(Signal::Next))),
-            )
+            self.placed(turns.line, Hand::Give(Given::Signal(Signal::Next)))
         }
     }
 
@@ -275,10 +271,7 @@ impl<'p> Machine<'p> {
             self.do_due(turns, left)
         } else {
             put_do(&mut self.pending, left, true);
-            self.placed(
-                turns.line,
-                Hand::Part(PartHand::Give(Given::Signal(Signal::Next))),
-            )
+            self.placed(turns.line, Hand::Give(Given::Signal(Signal::Next)))
         }
     }
 
@@ -322,7 +315,7 @@ impl<'p> Machine<'p> {
             Came::Over(Outcome::Bound)
         } else {
             put_do(&mut self.pending, left - 1, false);
-            self.put(Hand::Run(turns.body))
+            self.put(Hand::Run(turns.body.as_ref()))
         }
     }
 
@@ -339,10 +332,7 @@ impl<'p> Machine<'p> {
             self.entry(turns, at)
         } else {
             put_entry(&mut self.pending, at, true);
-            self.placed(
-                turns.line,
-                Hand::Part(PartHand::Give(Given::Signal(Signal::Next))),
-            )
+            self.placed(turns.line, Hand::Give(Given::Signal(Signal::Next)))
         }
     }
 
@@ -359,7 +349,7 @@ impl<'p> Machine<'p> {
                 match bind_at(turns.binding, subject, at, &mut self.state) {
                     Ok(()) => {
                         put_entry(&mut self.pending, at + 1, false);
-                        self.put(Hand::Run(turns.body))
+                        self.put(Hand::Run(turns.body.as_ref()))
                     }
                     Err(why) => halted(why),
                 }
@@ -413,6 +403,7 @@ fn put_entry<'p>(pending: &mut Vec<Waiting<'p>>, at: usize, due: bool)
     }
 }
 
+/// The position of an item of statements is this.
 fn position_in<'p>(item: &mut Waiting<'p>, at: usize)
     ensures { (all : StatementList) (before : ℕ) → item.old ≡ waiting_for (any_signal_work.Rest all before)
         → item.new ≡ waiting_for (any_signal_work.Rest all at) }
@@ -426,6 +417,7 @@ fn position_in<'p>(item: &mut Waiting<'p>, at: usize)
     }
 }
 
+/// The numbers of an item of turns are these.
 fn turn_in<'p>(item: &mut Waiting<'p>, left: u64, due: bool)
     ensures { (turns : AnyTurns) (n : ℕ) (b : Bool) → item.old ≡ waiting_for (any_signal_work.Body turns n b)
         → item.new ≡ waiting_for (any_signal_work.Body turns left due) }
@@ -442,6 +434,7 @@ fn turn_in<'p>(item: &mut Waiting<'p>, left: u64, due: bool)
     }
 }
 
+/// The same of a `do`.
 fn do_in<'p>(item: &mut Waiting<'p>, left: u64, due: bool)
     ensures { (turns : AnyDoTurns) (n : ℕ) (b : Bool) → item.old ≡ waiting_for (any_signal_work.DoBody turns n b)
         → item.new ≡ waiting_for (any_signal_work.DoBody turns left due) }
@@ -458,6 +451,7 @@ fn do_in<'p>(item: &mut Waiting<'p>, left: u64, due: bool)
     }
 }
 
+/// The same of a `foreach`.
 fn entry_in<'p>(item: &mut Waiting<'p>, at: usize, due: bool)
     ensures { (turns : AnyEachTurns) (subject : AnyValue) (n : ℕ) (b : Bool)
         → item.old ≡ waiting_for (any_signal_work.EachBody turns subject n b)

@@ -12,11 +12,10 @@ use Rattle.dp_meaning.specs.Writes.{evaluation_limit}
 use Rattle.dp_step.specs.declared.machine.Machine.{Machine}
 use Rattle.dp_step.specs.inner.Leaps.{driven}
 use Rattle.dp_step.specs.Stands.{rest_of}
-use Rattle.dp_step_parts.specs.declared.work.Given.{Given}
-use Rattle.dp_step_parts.specs.declared.work.Given.TheVariants as given
-use Rattle.dp_step_parts.specs.declared.work.Hand.TheVariants as part
-use Rattle.dp_step_statements.specs.declared.work.Hand.{Hand}
-use Rattle.dp_step_statements.specs.declared.work.Hand.TheVariants as hand
+use Rattle.dp_small_steps.specs.declared.work.Given.{Given}
+use Rattle.dp_small_steps.specs.declared.work.Given.TheVariants as given
+use Rattle.dp_small_steps.specs.declared.work.Hand.{Hand}
+use Rattle.dp_small_steps.specs.declared.work.Hand.TheVariants as hand
 
 -- nothing is to be done, in a state; what is done from there is an evaluation
 pub record IsIdle (bundle : Bundle) (s : State) (m : Machine) : Type 0 where
@@ -32,7 +31,7 @@ value_in (given.Signal (Return v)) = Some v
 value_in g = None
 
 abbrev pub value_in_hand : Hand → Option Value
-value_in_hand (hand.Part (part.Give g)) = value_in g
+value_in_hand (hand.Give g) = value_in g
 value_in_hand h = None
 
 -- where a run comes that returns what an evaluation gives

@@ -6,13 +6,13 @@ use Rattle.dp_value.specs.declared.value.Value.{Value}
 use Rattle.dp_actions.specs.Loops.{entries}
 use Rattle.dp_step.specs.declared.machine.Machine.{Machine}
 use Rattle.dp_step.specs.Stands.{pending_rest}
-use Rattle.dp_step_parts.specs.Rest.{Follows}
-use Rattle.dp_step_statements.specs.declared.work.EachTurns.{EachTurns}
-use Rattle.dp_step_statements.specs.declared.work.ForSignal.{ForSignal}
-use Rattle.dp_step_statements.specs.declared.work.ForSignal.TheVariants as signal_work
-use Rattle.dp_step_statements.specs.declared.work.Waiting.{Waiting}
-use Rattle.dp_step_statements.specs.declared.work.Waiting.TheVariants as waiting
-use Rattle.dp_step_statements.specs.declared.work.Work.TheVariants as work
+use Rattle.dp_small_steps.specs.Parts.{Follows}
+use Rattle.dp_small_steps.specs.declared.work.EachTurns.{EachTurns}
+use Rattle.dp_small_steps.specs.declared.work.ForSignal.{ForSignal}
+use Rattle.dp_small_steps.specs.declared.work.ForSignal.TheVariants as signal_work
+use Rattle.dp_small_steps.specs.declared.work.Waiting.{Waiting}
+use Rattle.dp_small_steps.specs.declared.work.Waiting.TheVariants as waiting
+use Rattle.dp_small_steps.specs.declared.work.Work.TheVariants as work
 
 abbrev pub StatementList : Type 0
 StatementList = Bor (List Statement)

@@ -13,7 +13,7 @@ use Rattle.dp_meaning.specs.Whole.{RunsWhole}
 use Rattle.dp_step.specs.declared.machine.Machine.{Machine}
 use Rattle.dp_step.specs.inner.Moves.{follows_of, setting_at}
 use Rattle.dp_step.specs.Stands.{rest_of}
-use Rattle.dp_step_parts.specs.Rest.{to_signal}
+use Rattle.dp_small_steps.specs.Parts.{to_signal}
 
 -- where this comes to, with no writes at its moments
 abbrev pub driven : Machine → Run Signal → Reached Signal

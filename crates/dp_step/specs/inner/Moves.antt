@@ -25,18 +25,17 @@ use Rattle.dp_step.specs.declared.machine.Arrival.{Arrival}
 use Rattle.dp_step.specs.declared.machine.Arrival.TheVariants as arrival
 use Rattle.dp_step.specs.declared.machine.Progress.{Progress}
 use Rattle.dp_step.specs.declared.machine.Progress.TheVariants as progress
-use Rattle.dp_step_parts.specs.declared.work.Given.{Given}
-use Rattle.dp_step_parts.specs.declared.work.Given.TheVariants as given
-use Rattle.dp_step_parts.specs.declared.work.Hand.TheVariants as part
-use Rattle.dp_step_statements.specs.declared.work.Hand.{Hand}
-use Rattle.dp_step_statements.specs.declared.work.Hand.TheVariants as hand
-use Rattle.dp_step_statements.specs.declared.work.Next.{Next}
-use Rattle.dp_step_statements.specs.declared.work.Small.{Small}
-use Rattle.dp_step_statements.specs.declared.work.Waiting.{Waiting}
-use Rattle.dp_step_statements.specs.declared.work.Work.{Work}
-use Rattle.dp_step_statements.specs.Rest.{hand_rest, next_rest, small_rest}
-use Rattle.dp_step_parts.specs.Rest.{Follows, to_value}
-use Rattle.dp_step_statements.specs.Rest.{waiting_rest, work_rest}
+use Rattle.dp_small_steps.specs.declared.work.Given.{Given}
+use Rattle.dp_small_steps.specs.declared.work.Given.TheVariants as given
+use Rattle.dp_small_steps.specs.declared.work.Hand.{Hand}
+use Rattle.dp_small_steps.specs.declared.work.Hand.TheVariants as hand
+use Rattle.dp_small_steps.specs.declared.work.Next.{Next}
+use Rattle.dp_small_steps.specs.declared.work.Small.{Small}
+use Rattle.dp_small_steps.specs.declared.work.Waiting.{Waiting}
+use Rattle.dp_small_steps.specs.declared.work.Work.{Work}
+use Rattle.dp_small_steps.specs.Rest.{hand_rest, next_rest, small_rest}
+use Rattle.dp_small_steps.specs.Parts.{Follows, to_value}
+use Rattle.dp_small_steps.specs.Rest.{waiting_rest, work_rest}
 use Rattle.dp_step.specs.Stands.{HasEnded, depth_after, pending_rest, rest_of, signal_of}
 
 -- ---- what a machine has to do beside its hand
@@ -99,7 +98,7 @@ IsOver (At kind line s go) o t = ⊥
 -- it is done, and what was given last is in hand
 pub record IsDone (run : Run Signal) (m : Machine) : Type 0 where
   pub given : Given
-  pub in_hand : m.hand ≡ hand.Part (part.Give given)
+  pub in_hand : m.hand ≡ hand.Give given
   pub done : run ≡ Done (signal_of given) m.state
 
 abbrev pub MovesBy : Run Signal → Came → Machine → Type 0

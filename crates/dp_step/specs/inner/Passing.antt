@@ -11,7 +11,8 @@ use Rattle.dp_actions.specs.Statements.{statement_run}
 use Rattle.dp_meaning.specs.Trace.{moment_of}
 use Rattle.dp_meaning.specs.Writes.{arrived}
 use Rattle.dp_meaning.specs.Programs.{setting_of}
-use Rattle.dp_quiet.specs.Quiet.{AreLoud, OnFree, is_free}
+use Rattle.dp_analysis.specs.Quiet.{AreLoud, is_free}
+use Rattle.dp_meaning.specs.Unwatched.{OnFree}
 use Rattle.dp_tree.specs.declared.bundle.Bundle.{Bundle}
 use Rattle.dp_step.specs.declared.machine.Arrival.{Arrival}
 use Rattle.dp_step.specs.declared.machine.Arrival.TheVariants as arrival
@@ -23,9 +24,9 @@ use Rattle.dp_step.specs.declared.machine.Progress.TheVariants as progress
 use Rattle.dp_step.specs.inner.Moves.{ArrivesBy, Comes}
 use Rattle.dp_step.specs.Past.{IsPassed}
 use Rattle.dp_step.specs.Stands.{rest_of}
-use Rattle.dp_step_parts.specs.Rest.{Follows, to_signal}
-use Rattle.dp_step_statements.specs.declared.work.Hand.{Hand}
-use Rattle.dp_step_statements.specs.Rest.{hand_rest}
+use Rattle.dp_small_steps.specs.Parts.{Follows, to_signal}
+use Rattle.dp_small_steps.specs.declared.work.Hand.{Hand}
+use Rattle.dp_small_steps.specs.Rest.{hand_rest}
 
 -- a statement has no moments but such as are passed, in whatever frame
 abbrev pub IsQuietBy : List ℕ → Option (List (List ℕ)) → Statement → Type 0

@@ -1,12 +1,11 @@
 -- What is run whole: a statement, or the turns that are left of a loop, that comes to no deep call.
 -- `deep` tells of a name whether a call of it is deep.
-use Rattle.std.specs.Prelude.{ℕ, Bool, false, not, ◌||◌, List, slice_get}
-use Rattle.std.specs.Option.{option_map_or}
-use Rattle.dp_depth.specs.Depth.{any_deep, is_deep, statement_is_deep}
-use Rattle.dp_step_statements.specs.declared.work.Hand.{Hand}
-use Rattle.dp_step_statements.specs.declared.work.Hand.TheVariants as hand
-use Rattle.dp_step_statements.specs.declared.work.Turns.{Turns}
-use Rattle.dp_step_statements.specs.Rest.{after_of, tests_of}
+use Rattle.std.specs.Prelude.{ℕ, Bool, false, not, ◌||◌, List}
+use Rattle.dp_analysis.specs.Depth.{any_deep, is_deep, statement_is_deep}
+use Rattle.dp_small_steps.specs.declared.work.Hand.{Hand}
+use Rattle.dp_small_steps.specs.declared.work.Hand.TheVariants as hand
+use Rattle.dp_small_steps.specs.declared.work.Turns.{Turns}
+use Rattle.dp_small_steps.specs.Rest.{after_of, tests_of}
 
 module _ (deep : List ℕ → Bool) where
   -- what the turns evaluate, and their body
@@ -17,8 +16,6 @@ module _ (deep : List ℕ → Bool) where
 
   abbrev pub runs_whole : Hand → Bool
   runs_whole (hand.Run statement) = not (statement_is_deep deep statement.now)
-  runs_whole (hand.RunAt all at) =
-      option_map_or (λ s. not (statement_is_deep deep s)) (slice_get all.now at) false
   runs_whole (hand.Turn turns left) = not (turns_are_deep turns)
   runs_whole (hand.DoTurn turns left) =
       not (is_deep deep turns.test.now || statement_is_deep deep turns.body.now)

@@ -1,6 +1,6 @@
 use Rattle.std.proofs.Common.{is_some, subst, sym}
 use Rattle.std.specs.Option.{option_copied}
-use Rattle.dp_quiet.specs.Quiet.{AreLoud}
+use Rattle.dp_analysis.specs.Quiet.{AreLoud}
 use Rattle.dp_tree.specs.declared.bundle.Bundle.{Bundle}
 use Rattle.dp_step.proofs.PassedWays.{nears-first, nears-on, nears-there}
 use Rattle.dp_step.proofs.machine.Machine.approach.Goals as goal

@@ -1,6 +1,6 @@
 use Rattle.std.proofs.Common.{is_some}
 use Rattle.std.specs.Option.{option_copied}
-use Rattle.dp_quiet.specs.Quiet.{AreLoud}
+use Rattle.dp_analysis.specs.Quiet.{AreLoud}
 use Rattle.dp_step.specs.inner.Passing.{NearsBy}
 use Rattle.dp_step.proofs.machine.Machine.approach.Given as goal
 

@@ -1,6 +1,6 @@
 use Rattle.std.proofs.Common.{refl, sym}
 use Rattle.std.proofs.Math.ListN.{drop_of_length-le}
-use Rattle.dp_step_statements.proofs.FirstStatements.{arms-first}
+use Rattle.dp_small_steps.proofs.FirstStatements.{arms-first}
 use Rattle.dp_step.specs.inner.Moves.{follows_of, setting_at}
 use Rattle.dp_step.proofs.Smalls.{moves_as}
 use Rattle.dp_step.proofs.machine.Machine.arms.Goals as goal

@@ -4,8 +4,8 @@ use Rattle.dp_actions.specs.Expressions.{evaluation}
 use Rattle.dp_actions.specs.Run.{Done, and_then}
 use Rattle.dp_actions.proofs.Runs.{and_then-assoc}
 use Rattle.dp_actions.proofs.StatementLayers.{kind-Block, kind-Empty, kind-Expression, kind-Return}
-use Rattle.dp_step_parts.specs.Rest.{to_signal}
-use Rattle.dp_step_statements.proofs.FirstStatements.{if-is, placed-is, statement-is}
+use Rattle.dp_small_steps.specs.Parts.{to_signal}
+use Rattle.dp_small_steps.proofs.FirstStatements.{if-is, placed-is, statement-is}
 use Rattle.dp_step.specs.inner.Moves.{follows_of, setting_at}
 use Rattle.dp_step.proofs.Smalls.{moves_as}
 use Rattle.dp_step.proofs.machine.Machine.begin.Goals as goal

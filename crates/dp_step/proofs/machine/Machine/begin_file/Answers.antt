@@ -1,7 +1,7 @@
 use Rattle.std.proofs.Common.{◌-◌, ap, refl, ◌∙◌}
 use Rattle.dp_actions.specs.Bodies.{statements_of}
-use Rattle.dp_step_statements.specs.declared.work.Hand.{Hand}
-use Rattle.dp_step_statements.specs.Rest.{hand_rest}
+use Rattle.dp_small_steps.specs.declared.work.Hand.{Hand}
+use Rattle.dp_small_steps.specs.Rest.{hand_rest}
 use Rattle.dp_step.proofs.Smalls.{file-held}
 use Rattle.dp_step.proofs.machine.Machine.begin_file.Goals as goal
 

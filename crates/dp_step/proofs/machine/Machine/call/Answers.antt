@@ -1,6 +1,6 @@
 use Rattle.std.proofs.Common.{refl, ◌∙◌}
 use Rattle.dp_step.specs.inner.Moves.{body_with}
-use Rattle.dp_step_parts.proofs.AtOnce.{then_done}
+use Rattle.dp_small_steps.proofs.AtOnce.{then_done}
 use Rattle.dp_step.proofs.Smalls.{call-first, moves_as, taken-moves, too_deep-call}
 use Rattle.dp_step.proofs.machine.Machine.call.Goals as goal
 

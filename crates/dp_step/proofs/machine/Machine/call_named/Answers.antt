@@ -6,8 +6,8 @@ use Rattle.dp_actions.specs.Run.{◌>>=◌}
 use Rattle.dp_actions.proofs.AtOnceLaws.{first_done}
 use Rattle.dp_actions.proofs.Runs.{and_then-assoc}
 use Rattle.dp_meaning.proofs.CallLaws.{setting-bundle}
-use Rattle.dp_step_parts.specs.Rest.{to_value}
-use Rattle.dp_step_statements.proofs.CallLaws.{begins-Call, called-as}
+use Rattle.dp_small_steps.specs.Parts.{to_value}
+use Rattle.dp_small_steps.proofs.CallLaws.{begins-Call, called-as}
 use Rattle.dp_step.specs.inner.Moves.{follows_of, setting_at}
 use Rattle.dp_step.proofs.Smalls.{moves_as, taken-moves}
 use Rattle.dp_step.proofs.machine.Machine.call_named.Goals as goal

@@ -3,8 +3,8 @@ use Rattle.std.proofs.Math.ListN.{drop_of_length-le}
 use Rattle.dp_actions.specs.Expressions.{evaluation}
 use Rattle.dp_actions.specs.Run.{and_then}
 use Rattle.dp_actions.proofs.AtOnceLaws.{first_done}
-use Rattle.dp_step_parts.proofs.FirstParts.{from-member}
-use Rattle.dp_step_statements.proofs.FirstStatements.{chosen-first}
+use Rattle.dp_small_steps.proofs.FirstParts.{from-member}
+use Rattle.dp_small_steps.proofs.FirstStatements.{chosen-first}
 use Rattle.dp_step.specs.inner.Moves.{follows_of, setting_at}
 use Rattle.dp_step.proofs.Smalls.{moves_as, taken-moves}
 use Rattle.dp_step.proofs.machine.Machine.choose.Goals as goal
@@ -41,3 +41,10 @@ returns-in-Err c =
     taken-moves m _ _ (evaluation c.in-Some.first.now.test (setting_at m) m.state) _ c.in-Err.why _ _ c.halted.ensures
     (chosen-first (setting_at m) (follows_of m) m.state c.args.all.now c.args.at c.in-Some.first.now
     c.args.otherwise.now read.3.0 read.1) refl refl refl (rw (c.in-Err.is, c.whole.ensures) at c.value.ensures)
+
+pub returns-then-not-is_momentless : goal.returns-then-not-is_momentless
+returns-then-not-is_momentless c =
+    let m = c.args.self.now in
+    let read = rw c.as_slice.ensures at c.in-Some.ensures.lookup in
+    moves_as m m _ _ _ _ (chosen-first (setting_at m) (follows_of m) m.state c.args.all.now c.args.at
+    c.in-Some.first.now c.args.otherwise.now read.3.0 read.1) refl refl c.wait.ensures

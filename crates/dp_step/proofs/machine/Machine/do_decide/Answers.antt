@@ -1,7 +1,7 @@
 use Rattle.std.proofs.Common.{refl, ap, ◌∙◌}
 use Rattle.dp_actions.specs.Run.{and_then}
-use Rattle.dp_step_parts.specs.Rest.{to_signal}
-use Rattle.dp_step_statements.specs.Rest.{do_decided}
+use Rattle.dp_small_steps.specs.Parts.{to_signal}
+use Rattle.dp_small_steps.specs.Rest.{do_decided}
 use Rattle.dp_step.specs.inner.Moves.{setting_at}
 use Rattle.dp_step.specs.inner.Innermost.{over}
 use Rattle.dp_step.proofs.Smalls.{moves_as}

@@ -1,6 +1,6 @@
 use Rattle.std.proofs.Common.{◌-◌, false, true, refl, sym, ◌∙◌, arith}
-use Rattle.dp_step_statements.specs.declared.work.ForSignal.TheVariants as signal_work
-use Rattle.dp_step_statements.specs.declared.work.Hand.TheVariants as hand
+use Rattle.dp_small_steps.specs.declared.work.ForSignal.TheVariants as signal_work
+use Rattle.dp_small_steps.specs.declared.work.Hand.TheVariants as hand
 use Rattle.dp_step.proofs.Smalls.{moves_as}
 use Rattle.dp_step.proofs.TurnSteps.{do-next, do-none, with-is}
 use Rattle.dp_step.proofs.machine.Machine.do_turn.Goals as goal
@@ -17,6 +17,7 @@ pub returns-else-left-eq0 : goal.returns-else-left-eq0
 returns-else-left-eq0 c = λ below e.
     let m = c.args.self.now in
     moves_as m _ _ _ _ _ (do-next m below m.state c.args.turns c.args.left (omega (arith, c.if-left-eq0.false))
+    ∙ rw c.as_ref.ensures refl
     ∙ sym (with-is m below m.state _ (signal_work.DoBody c.args.turns (c.args.left - 1) false)
     (c.put_do.ensures below c.args.turns c.args.left true e)
-    (hand.Run c.args.turns.body))) refl refl c.put.ensures
+    (hand.Run c.as_ref.result))) refl refl c.put.ensures

@@ -2,9 +2,9 @@ use Rattle.std.proofs.Common.{length, ◌≤◌, ◌+◌, refl, ap, arith}
 use Rattle.std.proofs.Math.ListN.{drop_of_length-le}
 use Rattle.dp_actions.specs.Run.{Run, and_then}
 use Rattle.dp_actions.specs.declared.signal.Signal.{Signal}
-use Rattle.dp_step_parts.specs.Rest.{to_signal}
-use Rattle.dp_step_parts.proofs.FirstParts.{from-member}
-use Rattle.dp_step_statements.proofs.FirstStatements.{body-first}
+use Rattle.dp_small_steps.specs.Parts.{to_signal}
+use Rattle.dp_small_steps.proofs.FirstParts.{from-member}
+use Rattle.dp_small_steps.proofs.FirstStatements.{body-first}
 use Rattle.dp_step.specs.inner.Moves.{follows_of, setting_at}
 use Rattle.dp_step.proofs.Smalls.{moves_as}
 use Rattle.dp_step.proofs.LastStatements.{last-run}

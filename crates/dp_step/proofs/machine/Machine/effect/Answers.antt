@@ -1,7 +1,7 @@
 use Rattle.std.proofs.Common.{refl}
 use Rattle.dp_actions.specs.Expressions.{evaluation}
 use Rattle.dp_actions.proofs.AtOnceLaws.{first_done}
-use Rattle.dp_step_statements.specs.Rest.{next_to}
+use Rattle.dp_small_steps.specs.Rest.{next_to}
 use Rattle.dp_step.specs.inner.Moves.{follows_of, setting_at}
 use Rattle.dp_step.proofs.Smalls.{moves_as, taken-moves}
 use Rattle.dp_step.proofs.machine.Machine.effect.Goals as goal

@@ -2,11 +2,11 @@ use Rattle.std.proofs.Common.{◌≡◌, ◌+◌, drop, length, false, true, ref
 use Rattle.std.specs.Prelude.{slice_get}
 use Rattle.dp_actions.specs.Loops.{entries}
 use Rattle.dp_actions.specs.Run.{and_then}
-use Rattle.dp_step_parts.specs.Rest.{to_signal}
-use Rattle.dp_step_statements.specs.Rest.{each_turn, next_rest}
-use Rattle.dp_step_statements.specs.declared.work.ForSignal.TheVariants as signal_work
-use Rattle.dp_step_statements.specs.declared.work.Hand.TheVariants as hand
-use Rattle.dp_step_statements.proofs.TurnLaws.{bind-err, bind-ok}
+use Rattle.dp_small_steps.specs.Parts.{to_signal}
+use Rattle.dp_small_steps.specs.Rest.{each_turn, next_rest}
+use Rattle.dp_small_steps.specs.declared.work.ForSignal.TheVariants as signal_work
+use Rattle.dp_small_steps.specs.declared.work.Hand.TheVariants as hand
+use Rattle.dp_small_steps.proofs.TurnLaws.{bind-err, bind-ok}
 use Rattle.dp_step.specs.inner.Moves.{setting_at}
 use Rattle.dp_step.specs.inner.Innermost.{over}
 use Rattle.dp_step.proofs.Smalls.{moves_as}
@@ -30,11 +30,12 @@ returns-in-Ok c = λ below subject h e.
     let at3 = arm.subject-is in
     cc in
     moves_as m _ _ _ _ _ (bind-ok (setting_at m) (over m below) m.state c.args.turns subject c.args.at h
-    c.bind_at.new.state (λ entry r. (rw c.in-Ok.is at c.bind_at.ensures) entry
+    c.bind_at.new.state (λ entry r. (rw c.in-Ok.is at c.bind_at.ensures.entry) entry
     (ap (λ v. slice_get (entries v) c.args.at) same ∙ r))
+    ∙ rw c.as_ref.ensures refl
     ∙ sym (with-is m below c.bind_at.new.state _ (signal_work.EachBody c.args.turns subject (c.args.at + 1) false)
     (c.put_entry.ensures below c.args.turns subject c.args.at true e)
-    (hand.Run c.args.turns.body))) refl refl c.put.ensures
+    (hand.Run c.as_ref.result))) refl refl c.put.ensures
 
 pub returns-in-Err : goal.returns-in-Err
 returns-in-Err c = λ below subject h e.
@@ -50,7 +51,7 @@ returns-in-Err c = λ below subject h e.
     let at3 = arm.subject-is in
     cc in
     let leads = bind-err (setting_at m) (over m below) m.state c.args.turns subject c.args.at h c.bind_at.new.state
-    c.in-Err.why (λ entry r. (rw c.in-Err.is at c.bind_at.ensures) entry
+    c.in-Err.why (λ entry r. (rw c.in-Err.is at c.bind_at.ensures.entry) entry
     (ap (λ v. slice_get (entries v) c.args.at) same ∙ r)) in record {
       by = leads-off (next_rest (setting_at m)) (λ k. and_then (each_turn (setting_at m) c.args.turns (drop c.args.at
           (entries subject)) m.state) (to_signal k)) c.in-Err.why c.bind_at.new.state (over m below) _ _

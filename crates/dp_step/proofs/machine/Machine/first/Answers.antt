@@ -1,5 +1,5 @@
 use Rattle.std.proofs.Common.{refl}
-use Rattle.dp_meaning.proofs.CallLaws.{setting-bound, setting-bundle}
+use Rattle.dp_meaning.proofs.CallLaws.{setting-bundle}
 use Rattle.dp_step.specs.inner.Moves.{follows_of, setting_at}
 use Rattle.dp_step.proofs.Smalls.{moves_off, moves_on}
 use Rattle.dp_step.proofs.machine.Machine.first.Goals as goal
@@ -8,15 +8,13 @@ pub returns-in-Ok : goal.returns-in-Ok
 returns-in-Ok c =
     let m = c.args.self.now in
     moves_on (setting_at m) _ c.in-Ok.small c.first_of.new.state (follows_of m) m _ _ _ _ refl refl refl
-    (rw c.in-Ok.is at (c.first_of.ensures (setting_at m) (setting-bundle m.bundle.now m.bound m.depth)
-    (setting-bound m.bundle.now m.bound m.depth))) c.keep.ensures
+    (rw c.in-Ok.is at (c.first_of.ensures (setting_at m) (setting-bundle m.bundle.now m.bound m.depth))) c.keep.ensures
 
 pub returns-in-Err : goal.returns-in-Err
 returns-in-Err c =
     let m = c.args.self.now in record {
       by = moves_off (setting_at m) _ c.in-Err.why c.first_of.new.state (follows_of m) _ _ c.halted.ensures refl
-          (rw c.in-Err.is at (c.first_of.ensures (setting_at m) (setting-bundle m.bundle.now m.bound m.depth)
-          (setting-bound m.bundle.now m.bound m.depth)));
+          (rw c.in-Err.is at (c.first_of.ensures (setting_at m) (setting-bundle m.bundle.now m.bound m.depth)));
       same_bundle = refl;
       same_bound = refl;
     }

@@ -1,6 +1,6 @@
 use Rattle.std.proofs.Common.{refl, ◌∙◌}
 use Rattle.dp_step.specs.inner.Moves.{file_with}
-use Rattle.dp_step_parts.proofs.AtOnce.{then_done}
+use Rattle.dp_small_steps.proofs.AtOnce.{then_done}
 use Rattle.dp_step.proofs.Smalls.{file-first, moves_as, taken-moves, too_deep-file}
 use Rattle.dp_step.proofs.machine.Machine.include.Goals as goal
 

@@ -1,8 +1,8 @@
 use Rattle.std.proofs.Common.{refl, sym, ◌+◌, ◌∙◌, arith}
 use Rattle.std.proofs.Math.ListN.{drop_of_length-le}
-use Rattle.dp_step_parts.proofs.FirstParts.{from-member}
-use Rattle.dp_step_statements.specs.declared.work.ForSignal.TheVariants as signal_work
-use Rattle.dp_step_statements.specs.declared.work.Hand.TheVariants as hand
+use Rattle.dp_small_steps.proofs.FirstParts.{from-member}
+use Rattle.dp_small_steps.specs.declared.work.ForSignal.TheVariants as signal_work
+use Rattle.dp_small_steps.specs.declared.work.Hand.TheVariants as hand
 use Rattle.dp_step.proofs.Smalls.{moves_as}
 use Rattle.dp_step.proofs.TurnSteps.{go-on, last-off, off-is, on-is, rest-last, rest-more, rest-none, with-is}
 use Rattle.dp_step.proofs.machine.Machine.rest.Goals as goal
@@ -26,7 +26,7 @@ returns-then-at-as_slice c =
     ∙ rest-more m below m.state c.args.all.now c.args.at _ (from-member _ _ _ read.3.0 read.1)
     ∙ sym (with-is m below m.state _ (signal_work.Rest c.args.all (c.args.at + 1))
     (c.put_position.ensures below c.args.all c.args.at c.requires.1)
-    (hand.RunAt c.args.all c.args.at))) refl refl c.put.ensures
+    (hand.Run c.in-Some.first))) refl refl c.put.ensures
 
 pub returns-else-at-as_slice : goal.returns-else-at-as_slice
 returns-else-at-as_slice c =
@@ -40,4 +40,4 @@ returns-else-at-as_slice c =
     ∙ rest-last m below m.state c.args.all.now c.args.at _ (from-member _ _ _ read.3.0 read.1)
     (drop_of_length-le c.args.all.now {i = c.args.at + 1}
     (omega (arith, short)))
-    ∙ off-is m below m.state _ popped (hand.RunAt c.args.all c.args.at)) refl refl c.put-else-at-as_slice.ensures
+    ∙ off-is m below m.state _ popped (hand.Run c.in-Some.first)) refl refl c.put-else-at-as_slice.ensures

@@ -10,15 +10,8 @@ returns-in-Run c =
     IfOk-weaker c.gave.result _ _ (λ end leaps. leaps_hand m _ c.gave.new.self _ end (sym c.replace.ensures.value
     ∙ c.in-Run.is) refl leaps)
     (c.gave.ensures (statement_run c.in-Run.statement.now) m.state (record {
-      by = rw
-          (c.whole.ensures, c.as_ref.ensures) at c.statement-done.ensures;
+      by = rw c.whole.ensures at c.statement-done.ensures;
     }))
-
-pub returns-in-RunAt : goal.returns-in-RunAt
-returns-in-RunAt c =
-    IfOk-weaker c.statement_at.result _ _ (λ end leaps. leaps_hand c.args.self.now _ c.statement_at.new.self _ end
-    (sym c.replace.ensures.value ∙ c.in-RunAt.is) refl leaps)
-    c.statement_at.ensures
 
 pub returns-in-Turn : goal.returns-in-Turn
 returns-in-Turn c =

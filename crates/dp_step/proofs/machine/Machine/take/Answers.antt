@@ -1,5 +1,5 @@
 use Rattle.std.proofs.Common.{◌-◌, take, refl, ap, ◌∙◌}
-use Rattle.dp_step_statements.specs.declared.work.Waiting.TheVariants as waiting
+use Rattle.dp_small_steps.specs.declared.work.Waiting.TheVariants as waiting
 use Rattle.dp_step.proofs.Smalls.{moves_as, innermost, nothing-left}
 use Rattle.dp_step.proofs.machine.Machine.take.Goals as goal
 

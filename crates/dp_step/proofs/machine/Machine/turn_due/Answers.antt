@@ -1,6 +1,6 @@
 use Rattle.std.proofs.Common.{refl, sym, ◌∙◌}
 use Rattle.dp_actions.proofs.Runs.{and_then-assoc}
-use Rattle.dp_step_statements.proofs.TurnLaws.{test-alone, tests-by}
+use Rattle.dp_small_steps.proofs.TurnLaws.{test-alone, tests-by}
 use Rattle.dp_step.specs.inner.Moves.{setting_at}
 use Rattle.dp_step.specs.inner.Innermost.{over}
 use Rattle.dp_step.proofs.Smalls.{moves_as}

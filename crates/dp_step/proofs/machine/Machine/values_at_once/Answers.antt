@@ -1,7 +1,7 @@
 use Rattle.std.proofs.Common.{refl}
 use Rattle.dp_actions.specs.Expressions.{evaluations}
 use Rattle.dp_actions.proofs.AtOnceLaws.{first_done}
-use Rattle.dp_step_parts.specs.Rest.{to_values}
+use Rattle.dp_small_steps.specs.Parts.{to_values}
 use Rattle.dp_step.specs.inner.Moves.{follows_of, setting_at}
 use Rattle.dp_step.proofs.Smalls.{moves_as, taken-moves}
 use Rattle.dp_step.proofs.machine.Machine.values_at_once.Goals as goal

@@ -12,4 +12,4 @@ returns-in-None c =
 pub returns-in-Some : goal.returns-in-Some
 returns-in-Some c =
     let m = c.args.self.now in
-    moves_as m m _ _ _ _ (rw c.in-Some.is refl) refl refl c.put.ensures
+    moves_as m m _ _ _ _ (rw (c.in-Some.is, c.as_ref.ensures) refl) refl refl c.put.ensures

@@ -1,0 +1,9 @@
+pub mod AtOnce
+pub mod Begins
+pub mod CallLaws
+pub mod FirstParts
+pub mod FirstStatements
+pub mod MomentSteps
+pub mod OtherKinds
+pub mod ResumedParts
+pub mod TurnLaws

@@ -1,0 +1,11 @@
+use Rattle.std.proofs.Common.{refl, ◌∙◌}
+use Rattle.dp_small_steps.proofs.AtOnce.{leads_off, then_done}
+use Rattle.dp_small_steps.proofs.after.global.Goals as goal
+
+pub returns-in-Ok : goal.returns-in-Ok
+returns-in-Ok c = λ setting. record {
+  by = λ k. then_done _ (tt {0}) c.bind_all.new.state _ c.in-Ok.ensures ∙ rw c.signal.ensures refl;
+}
+
+pub returns-in-Err : goal.returns-in-Err
+returns-in-Err c = λ setting. leads_off _ c.bind_all.new.state c.in-Err.why _ c.in-Err.ensures

@@ -1,0 +1,16 @@
+use Rattle.std.proofs.Common.{sym, ◌∙◌}
+use Rattle.dp_small_steps.specs.Rest.{turns_next}
+use Rattle.dp_small_steps.proofs.TurnLaws.{over-on, over-out}
+use Rattle.dp_small_steps.proofs.loops.body_over.Goals as goal
+
+pub returns-in-On : goal.returns-in-On
+returns-in-On c = λ setting k s.
+    rw c.unplaced.ensures (c.turns_on.ensures setting k s
+    ∙ over-on setting k s c.args.given (turns_next setting c.args.turns c.args.left)
+    (sym c.after_body.ensures ∙ c.in-On.is))
+
+pub returns-in-Out : goal.returns-in-Out
+returns-in-Out c = λ setting k s.
+    rw (c.unplaced-in-Out.ensures, c.signal.ensures)
+    (over-out setting k s c.args.given (turns_next setting c.args.turns c.args.left) _
+    (sym c.after_body.ensures ∙ c.in-Out.is))

@@ -1,0 +1,4 @@
+use Rattle.dp_small_steps.proofs.parts.step.Goals as goal
+
+pub returns : goal.returns
+returns c = λ setting. c.given.ensures setting _ _ (rw c.as_slice.ensures at c.step_place-made.ensures)

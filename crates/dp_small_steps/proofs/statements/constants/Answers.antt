@@ -1,0 +1,18 @@
+use Rattle.std.proofs.Common.{◌+◌, drop, refl, sym}
+use Rattle.std.proofs.Math.ListN.{drop_of_length-le}
+use Rattle.dp_actions.specs.Run.{and_then}
+use Rattle.dp_small_steps.proofs.FirstStatements.{constants-first}
+use Rattle.dp_small_steps.proofs.FirstParts.{from-member}
+use Rattle.dp_small_steps.proofs.statements.constants.Goals as goal
+
+pub returns-in-None : goal.returns-in-None
+unfolding and_then
+returns-in-None c = λ setting k s.
+    let read = rw c.as_slice.ensures at c.in-None.ensures.lookup in
+    rw (drop_of_length-le _ read.3, c.signal.ensures) refl
+
+pub returns-in-Some : goal.returns-in-Some
+returns-in-Some c = λ setting k s.
+    let read = rw c.as_slice.ensures at c.in-Some.ensures.lookup in
+    rw (from-member _ _ _ read.3.0 read.1, c.evaluated.ensures)
+    (sym (constants-first setting k s c.in-Some.first.now (drop (c.args.at + 1) c.args.all.now)))

@@ -1,4 +1,0 @@
-use Rattle.dp_step_parts.proofs.receive.put_item.Goals as goal
-
-pub returns : goal.returns
-returns c = λ setting. c.lengthened.ensures setting _ _ c.put-made.ensures

@@ -1,4 +1,0 @@
-use Rattle.dp_step_parts.proofs.receive.step.Goals as goal
-
-pub returns : goal.returns
-returns c = λ setting. c.given.ensures setting _ _ (rw c.as_slice.ensures at c.step_place-made.ensures)

@@ -1,4 +1,0 @@
-pub mod CallLaws
-pub mod FirstStatements
-pub mod TurnLaws
-pub mod MomentSteps

@@ -1,9 +1,0 @@
-use Rattle.std.proofs.Common.{refl}
-use Rattle.dp_step_statements.proofs.MomentSteps.{goes_off, goes_on}
-use Rattle.dp_step_statements.proofs.hands.moved.Goals as goal
-
-pub returns-in-Ok : goal.returns-in-Ok
-returns-in-Ok c = λ setting part t h. goes_on setting part c.in-Ok.next _ t refl (rw c.in-Ok.is at h)
-
-pub returns-in-Err : goal.returns-in-Err
-returns-in-Err c = λ setting part t h. goes_off setting part c.in-Err.why t (rw c.in-Err.is at h)

@@ -1,9 +1,0 @@
-use Rattle.std.proofs.Common.{sym}
-use Rattle.dp_actions.proofs.Runs.{and_then-assoc}
-use Rattle.dp_step_statements.proofs.loops.do_on.Goals as goal
-
-pub returns-then-due : goal.returns-then-due
-returns-then-due c = λ setting k s. rw c.if-due.true (sym (and_then-assoc _ _ _))
-
-pub returns-else-due : goal.returns-else-due
-returns-else-due c = λ setting k s. rw c.if-due.false (c.do_over.ensures setting k s)

@@ -1,8 +1,0 @@
-use Rattle.std.proofs.Common.{refl}
-use Rattle.dp_step_statements.proofs.loops.each_on.Goals as goal
-
-pub returns-then-due : goal.returns-then-due
-returns-then-due c = λ setting k s. rw c.if-due.true refl
-
-pub returns-else-due : goal.returns-else-due
-returns-else-due c = λ setting k s. rw c.if-due.false (c.each_over.ensures setting k s)

@@ -1,2 +1,0 @@
-pub mod Goes
-pub mod Rest
