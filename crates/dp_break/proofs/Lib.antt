@@ -1,8 +1,12 @@
 pub mod CountLaws
+pub mod Lengths
 pub mod Lookups
 pub mod Requests
+pub mod RequestTests
 pub mod Settled
+pub mod ShownSizes
 pub mod Steps
 pub mod TableLaws
 pub mod Truths
 pub mod Updates
+pub mod UpdateTests

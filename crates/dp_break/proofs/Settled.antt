@@ -13,7 +13,7 @@ use Rattle.dp_break.specs.inner.Marks.{one_settled, settled, some_settled_stops,
 use Rattle.dp_break.proofs.CountLaws.{with_more-zero}
 
 module _ (bundle : Bundle) (at : Moment × State) where
-  abbrev AreMarks : List Bool → List Breakpoint → Type 0
+  abbrev pub AreMarks : List Bool → List Breakpoint → Type 0
   AreMarks marks held = take (length held) marks ≡ map (hits bundle at) held
 
   map_cond : (t : Bool) (b : Breakpoint) (rest : List Breakpoint)

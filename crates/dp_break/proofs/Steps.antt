@@ -1,20 +1,11 @@
 -- Marks and hits, one place after another.
-use Rattle.std.proofs.Common.{◌≡◌, ℕ, suc, ◌+◌, ◌-◌, ◌<◌, ◌≤◌, Bool, false, cond, ◌&&◌, ◌||◌, List, [], ◌∷◌, ◌++◌, length, get_or, set, take, drop, map, refl, sym, ap, ◌∙◌, append_assoc, arith, subst}
-use Rattle.std.proofs.lemmas.List.{drop_all, drop_at, drop_more, get_or_append_left, get_or_read, get_or-take, length-take-le, map_more, set_split, take-append-le, take-take, take_all, take_more_set}
+use Rattle.std.proofs.Common.{◌≡◌, ℕ, suc, ◌+◌, ◌-◌, ◌<◌, ◌≤◌, Bool, false, cond, ◌&&◌, ◌||◌, List, [], ◌∷◌, ◌++◌, length, get_or, set, take, drop, refl, sym, ap, ◌∙◌, append_assoc, append-nil, arith, subst}
+use Rattle.std.proofs.lemmas.List.{drop_all, drop_at, drop_more, get_or_append_left, get_or_read, get_or-take, length-take-le, set_split, take-append-le, take-take, take_all}
 use Rattle.dp_break.specs.declared.breakpoint.Breakpoint.{Breakpoint}
 use Rattle.dp_break.specs.StopRule.{with_more}
 use Rattle.dp_break.specs.inner.Marks.{one_settled, settled, settled_one, some_settled_stops, stops_once_more}
 
 -- ---- marks
-
-pub marked_more : (test : Breakpoint → Bool) (held : List Breakpoint) (marks : List Bool) (at : ℕ) (b : Breakpoint)
-    (mark : Bool) → at < length held → length held ≤ length marks
-    → b ≡ get_or held at b → mark ≡ test b → take at marks ≡ map test (take at held)
-    → take (at + 1) (set marks at mark) ≡ map test (take (at + 1) held)
-marked_more test held marks at b mark within room read is so_far =
-    take_more_set marks at mark (omega arith)
-    ∙ (λ i. so_far i ++ (is ∙ ap test read) i ∷ [])
-    ∙ sym (map_more test held at b within)
 
 -- ---- one hit
 
@@ -56,20 +47,9 @@ module _ (marks : List Bool) (old : List Breakpoint) (room : length old ≤ leng
         within = omega arith;
         left =
             sym ((λ i. take_all at old (omega arith) i ++ settled (drop at marks) (none i))
-            ∙ ap (λ l. old ++ l) (settled-nil (drop at marks)) ∙ append_nil old);
+            ∙ ap (λ l. old ++ l) (settled-nil (drop at marks)) ∙ append-nil old);
         stops = sym (ap (some_settled_stops (drop at marks)) none ∙ some-nil (drop at marks));
-      } where
-        append_nil : (l : List Breakpoint) → l ++ [] ≡ l
-        append_nil [] = refl
-        append_nil (b ∷ l) = ap (λ m. b ∷ m) (append_nil l)
-
-  pub settled_all : (held : List Breakpoint) (stopped : Bool) (at : ℕ) → at ≡ 0 → Settled held stopped at
-      → (held ≡ settled marks old) × (stopped ≡ some_settled_stops marks old)
-  settled_all held stopped at e s = (
-    s.left ∙ (λ i. take (e i) old ++ settled (drop (e i) marks) (drop (e i) old)),
-    s.stops
-        ∙ (λ i. some_settled_stops (drop (e i) marks) (drop (e i) old)),
-  )
+      }
 
   module _ (n : ℕ) (held : List Breakpoint) (stopped : Bool) (s : Settled held stopped (n + 1)) where
     within_old : n < length old

@@ -2,6 +2,7 @@
 use Rattle.std.proofs.Common.{◌≡◌, ℕ, ◌+◌, ◌<◌, ◌≤◌, Bool, true, false, cond, ◌&&◌, List, [], ◌∷◌, ◌++◌, length, map, arith}
 use Rattle.std.specs.Prelude.{filter, All}
 use Rattle.std.proofs.lemmas.List.{length-append}
+use Rattle.std.proofs.lemmas.List.Sums.{count_by-le-length, length-filter}
 use Rattle.std.proofs.lemmas.List.Elements.{All-append, All-cons, All-filter, All-head, All-nil, All-push, All-tail}
 use Rattle.dp_break.specs.declared.breakpoint.Breakpoint.{Breakpoint}
 use Rattle.dp_break.specs.StopRule.{with_more}
@@ -94,10 +95,13 @@ settled_table marks held next t = record {
   sound = All-settled marks held t.sound;
 }
 
+pub filtered_short : (p : Breakpoint → Bool) (held : List Breakpoint) → length (filter p held) ≤ length held
+filtered_short p held = omega (arith, length-filter p held, count_by-le-length p held)
+
 pub filtered_table : (p : Breakpoint → Bool) (held : List Breakpoint) (next : ℕ) → IsTable (table held next)
-    → length (filter p held) ≤ length held → IsTable (table (filter p held) next)
-filtered_table p held next t short = record {
-  few = let few = t.few in omega arith;
+    → IsTable (table (filter p held) next)
+filtered_table p held next t = record {
+  few = let few = t.few in omega (arith, filtered_short p held);
   ascend = Ascend-filter p 1 held next t.ascend;
   last = t.last;
   sound = All-filter p IsSound held t.sound;
@@ -112,6 +116,3 @@ new_table held next b t room below numbered sound = record {
   last = omega arith;
   sound = All-push IsSound held b t.sound sound;
 }
-
-pub empty_table : IsTable (table [] 1)
-empty_table = record { few = omega arith; ascend = omega arith; last = omega arith; sound = All-nil IsSound }

@@ -1,14 +1,12 @@
 -- Why a breakpoint is refused, by the codes of DBGp 1.0, "Error Codes". Which case has which code,
 -- and their order, are this engine's own.
-use Rattle.std.specs.Prelude.{◌≡◌, ℕ, ◌==◌, nat_le, nat_lt, Bool, false, ◌&&◌, ◌||◌, if◌then◌else◌, length, Option, Some, None, is_some, Result, Ok, Err, ⊤}
+use Rattle.std.specs.Prelude.{ℕ, ◌==◌, nat_le, nat_lt, Bool, false, ◌&&◌, ◌||◌, if◌then◌else◌, length, Option, Some, None, is_some, Result, Err}
 use Rattle.std.specs.Option.{option_map_or, option_or}
 use Rattle.dp_tree.specs.declared.bundle.Bundle.{Bundle}
 use Rattle.dp_lexer.specs.Pieces.{longest_name}
 use Rattle.dp_break.specs.declared.breakpoint.BreakChange.{BreakChange}
 use Rattle.dp_break.specs.declared.breakpoint.Breakpoint.{Breakpoint}
 use Rattle.dp_break.specs.declared.breakpoint.BreakRequest.{BreakRequest}
-use Rattle.dp_break.specs.declared.errors.BreakError.{BreakError}
-use Rattle.dp_break.specs.declared.errors.BreakError.TheVariants as error
 use Rattle.dp_break.specs.Conditions.{has_no_tree, is_too_long}
 use Rattle.dp_break.specs.Hits.{is_of_function}
 use Rattle.dp_packet.specs.Messages.{code_in}
@@ -50,11 +48,6 @@ plain_refusal resolve bundle t r =
     option_or (place_refusal resolve bundle t r)
     (code_if (is_too_long r.expression) InvalidExpression)
 
--- why a request is not accepted: it is refused, or memory runs out
-abbrev pub IsCause : Option ErrorCode → BreakError → Type 0
-IsCause refusal (error.Code code) = refusal ≡ Some code
-IsCause refusal error.Memory = ⊤
-
 -- ---- changes
 
 -- the line that is kept of a change, if one is given; or that it is given to a breakpoint on a
@@ -64,16 +57,12 @@ change_kept resolve bundle c b =
     if is_of_function b.kind && is_some c.line then Err InvalidOptions
     else requested_line resolve bundle b.file c.line
 
-abbrev pub change_refusal : Bool → Bundle → BreakChange → Breakpoint → Option ErrorCode
-change_refusal resolve bundle c b = code_in (change_kept resolve bundle c b)
-
 -- the same of a breakpoint that was looked for
+abbrev pub update_kept :
+    Bool → Bundle → BreakChange → Option Breakpoint → Result (Option ℕ) ErrorCode
+update_kept resolve bundle c found =
+    option_map_or (change_kept resolve bundle c) found (Err NoSuchBreakpoint)
+
 abbrev pub update_refusal :
     Bool → Bundle → BreakChange → Option Breakpoint → Option ErrorCode
-update_refusal resolve bundle c found =
-    option_map_or (change_refusal resolve bundle c) found (Some NoSuchBreakpoint)
-
--- done, or refused with a code
-abbrev pub answer_of : Option ErrorCode → Result Unit BreakError
-answer_of None = Ok tt
-answer_of (Some code) = Err (error.Code code)
+update_refusal resolve bundle c found = code_in (update_kept resolve bundle c found)

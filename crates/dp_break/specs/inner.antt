@@ -2,3 +2,6 @@
 -- speaks of it.
 pub mod Marks
 pub mod Causes
+pub mod Meant
+pub mod LineSizes
+pub mod Numbers

@@ -1,13 +1,13 @@
 //! The breakpoints that a session holds.
 
-ghost use Rattle.std.specs.Prelude.{◌≡◌, ◌==◌, ◌<◌, ◌≤◌, true, [], ◌∷◌, length, option_map, is_some, position, IfErr};
-ghost use Rattle.std.specs.Prelude.{IfOk, IfSome, OnOk, OnErr, Err};
+ghost use Rattle.std.specs.Prelude.{◌≡◌, ◌==◌, ◌<◌, ◌≤◌, true, [], ◌∷◌, if◌then◌else◌, length, map};
+ghost use Rattle.std.specs.Prelude.{is_some, option_map, IfErr, IfOk, IfSome, OnOk, OnErr, Err};
 ghost use Rattle.std.specs.List.{list_any};
-ghost use Rattle.dp_break.specs.Changes.{Adds, IsRequest, held_as, with_change, with_new, without};
+ghost use Rattle.dp_break.specs.Changes.{Adds, IsRequest, changed_to, held_as, with_change, with_new, without};
 ghost use Rattle.dp_break.specs.Hits.{depends_on_expression, hits};
 ghost use Rattle.dp_break.specs.StopRule.{held_after, one_stops};
-ghost use Rattle.dp_break.specs.Refusals.{IsCause, answer_of, change_kept, place_kept, plain_refusal};
-ghost use Rattle.dp_break.specs.Refusals.{request_refusal, update_refusal};
+ghost use Rattle.dp_break.specs.Causes.{IsCause, answer_of};
+ghost use Rattle.dp_break.specs.Refusals.{place_kept, plain_refusal, request_refusal, update_kept, update_refusal};
 ghost use Rattle.dp_break.specs.Tables.{IsSound, IsTable, breakpoint_limit, empty, last_id};
 
 use crate::breakpoint::{BreakChange, BreakRequest, Breakpoint};
@@ -15,7 +15,7 @@ use crate::conditions::tree_of;
 use crate::errors::BreakError;
 use crate::hits::is_of_function;
 use crate::lines::requested_line;
-use crate::moments::{any_hits, discard, mark, settle};
+use crate::moments::{any_hits, mark, settle};
 use crate::new_breakpoints::new_breakpoint;
 use dp_lexer::NAME_LIMIT;
 use dp_packet::ErrorCode;
@@ -52,11 +52,36 @@ impl Model for Breaks {
         × (length b.held.items ≤ length b.marks.items) };
 }
 
-/// The place of the breakpoint with this id.
-fn place_of(held: &[Breakpoint], id: u32) -> Option<usize>
-    ensures { result ≡ position (λ b. b.id == id) held.now }
+/// Changes a breakpoint, if it has this id. Takes no memory.
+fn change_one(
+    breakpoint: &mut Breakpoint,
+    id: u32,
+    change: BreakChange,
+    line: Option<u32>,
+    resolve: bool,
+)
+    ensures { breakpoint.new ≡
+        if breakpoint.old.id == id then changed_to change line resolve breakpoint.old else breakpoint.old }
 {
-    held.iter().position(|breakpoint| breakpoint.id == id)
+    if breakpoint.id == id {
+        breakpoint.change(change, line, resolve);
+    }
+}
+
+/// Changes the breakpoint with this id. Takes no memory.
+fn change_held(
+    held: &mut Vec<Breakpoint>,
+    id: u32,
+    change: BreakChange,
+    line: Option<u32>,
+    resolve: bool,
+)
+    ensures { held.new.items ≡
+        map (λ b. if b.id == id then changed_to change line resolve b else b) held.old.items }
+{
+    for breakpoint in held.iter_mut() {
+        change_one(breakpoint, id, change, line, resolve);
+    }
 }
 
 /// Makes room for one mark more than so many.
@@ -69,21 +94,6 @@ fn make_room(marks: &mut Vec<bool>, count: usize) -> Result<(), Memory>
         marks.push(false)?;
     }
     Ok(())
-}
-
-/// The line that is kept of a change, if it gives one, or the code with which it is refused.
-fn kept_of(
-    bundle: &Bundle,
-    change: BreakChange,
-    breakpoint: &Breakpoint,
-    resolve: bool,
-) -> Result<Option<u32>, ErrorCode>
-    ensures { result ≡ change_kept resolve bundle.now change breakpoint.now }
-{
-    if is_of_function(breakpoint.kind) && change.line.is_some() {
-        return Err(ErrorCode::InvalidOptions);
-    }
-    requested_line(resolve, bundle, breakpoint.file, change.line)
 }
 
 impl Breaks {
@@ -205,21 +215,37 @@ impl Breaks {
         change: BreakChange,
         resolve: bool,
     ) -> Result<(), BreakError>
-        ensures answer { result ≡ answer_of (update_refusal resolve bundle.now change (held_as self.old.held id)) }
+        ensures answer { result ≡ answer_of (update_refusal resolve bundle.now change (held_as self.old.held id)) tt }
         ensures changed { OnOk result (self.new ≡ with_change resolve bundle.now id change self.old) }
         ensures unchanged { OnErr result (self.new ≡ self.old) }
     {
-        let at = match place_of(self.held.as_slice(), id) {
-            Some(at) => at,
-            None => return Err(BreakError::Code(ErrorCode::NoSuchBreakpoint)),
+        match self.update_kept(bundle, id, change, resolve) {
+            Ok(line) => {
+                change_held(&mut self.held, id, change, line, resolve);
+                Ok(())
+            }
+            Err(code) => Err(BreakError::Code(code)),
+        }
+    }
+
+    /// The line that is kept of a change, if it gives one, or the first of the codes 205, 3, 202 and 203 with which it
+    /// is refused.
+    fn update_kept(
+        &self,
+        bundle: &Bundle,
+        id: u32,
+        change: BreakChange,
+        resolve: bool,
+    ) -> Result<Option<u32>, ErrorCode>
+        ensures { result ≡ update_kept resolve bundle.now change (held_as self.now.held id) }
+    {
+        let Some(breakpoint) = self.get(id) else {
+            return Err(ErrorCode::NoSuchBreakpoint);
         };
-        let breakpoint = &mut self.held[at];
-        let line = match kept_of(bundle, change, breakpoint, resolve) {
-            Ok(line) => line,
-            Err(code) => return Err(BreakError::Code(code)),
-        };
-        breakpoint.change(change, line, resolve);
-        Ok(())
+        if is_of_function(breakpoint.kind) && change.line.is_some() {
+            return Err(ErrorCode::InvalidOptions);
+        }
+        requested_line(resolve, bundle, breakpoint.file, change.line)
     }
 
     /// Takes out the breakpoint with this id, and says whether there was one. Takes no memory.
@@ -227,13 +253,9 @@ impl Breaks {
         ensures found { result ≡ is_some (held_as self.old.held id) }
         ensures left { self.new ≡ without id self.old }
     {
-        match place_of(self.held.as_slice(), id) {
-            Some(at) => {
-                discard(self.held.remove(at));
-                true
-            }
-            None => false,
-        }
+        let found = self.get(id).is_some();
+        self.held.retain(|breakpoint| breakpoint.id != id);
+        found
     }
 
     /// Whether a breakpoint hits at a moment in this state, in which expressions are evaluated. Memory is taken only
@@ -264,7 +286,7 @@ impl Breaks {
             moment,
             state,
             self.held.as_slice(),
-            self.marks.as_mut_slice(),
+            &mut self.marks,
         )?;
         Ok(settle(&mut self.held, self.marks.as_slice()))
     }

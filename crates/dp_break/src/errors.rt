@@ -1,4 +1,4 @@
-//! Why a breakpoint is not set or not changed.
+//! Why what is asked of breakpoints is not done.
 
 ghost use Rattle.std.specs.Prelude.{◌≡◌};
 ghost use Rattle.dp_break.specs.declared.errors.BreakError.TheVariants.{Memory};
@@ -7,7 +7,7 @@ use dp_packet::ErrorCode;
 use std::alloc::{AllocError, AllocFailed};
 use thiserror::Error;
 
-/// Why a breakpoint was not set or not changed.
+/// Why what was asked of breakpoints was not done.
 #[derive(Clone, Copy, Debug, Error, PartialEq, Eq)]
 pub enum BreakError {
     /// The code of the error response. DBGp 1.0, "Error Codes".

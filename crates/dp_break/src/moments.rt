@@ -43,12 +43,13 @@ pub(crate) fn mark(
     moment: &Moment,
     state: &State,
     held: &[Breakpoint],
-    marks: &mut [bool],
+    marks: &mut Vec<bool>,
 ) -> Result<(), Memory>
-    requires room { length held.now ≤ length marks.old }
+    requires room { length held.now ≤ length marks.old.items }
     requires sound { All IsSound held.now }
     ensures marked { OnOk result
-        (take (length held.now) marks.new ≡ map (hits bundle.now (moment.now, state.now)) held.now) }
+        (take (length held.now) marks.new.items ≡ map (hits bundle.now (moment.now, state.now)) held.now) }
+    ensures kept { length marks.new.items ≡ length marks.old.items }
     ensures memory { OnErr result (list_any (depends_on_expression moment.now) held.now ≡ true) }
 {
     for at in 0..held.len() {
@@ -58,7 +59,7 @@ pub(crate) fn mark(
 }
 
 /// Lets go of a breakpoint.
-pub(crate) fn discard(_breakpoint: Breakpoint) {}
+fn discard(_breakpoint: Breakpoint) {}
 
 /// Counts a hit of the breakpoint at this place. One that is temporary goes where it stops.
 fn hit(held: &mut Vec<Breakpoint>, at: usize) -> bool

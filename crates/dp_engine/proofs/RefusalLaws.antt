@@ -24,7 +24,7 @@ use Rattle.dp_command.specs.declared.command.SessionRequest.TheVariants as sessi
 use Rattle.dp_command.specs.declared.command.Stream.TheVariants.{Stdout, Stderr}
 use Rattle.dp_command.specs.declared.command.WriteRequest.{WriteRequest}
 use Rattle.dp_break.specs.Tables.{Table}
-use Rattle.dp_breakpoint_commands.specs.Commands.{breakpoint_response}
+use Rattle.dp_break.specs.Commands.{breakpoint_response}
 use Rattle.dp_tree.specs.declared.bundle.Bundle.{Bundle}
 use Rattle.dp_wire.specs.Frames.{packet_limit}
 use Rattle.dp_command.specs.declared.command.Continuation.{Continuation}

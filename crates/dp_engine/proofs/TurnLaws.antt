@@ -9,8 +9,8 @@ use Rattle.dp_wire.specs.Frames.{packet_limit}
 use Rattle.dp_tree.specs.declared.bundle.Bundle.{Bundle}
 use Rattle.dp_tree.specs.FileNames.{AreFileNames}
 use Rattle.dp_break.specs.Tables.{Table}
-use Rattle.dp_breakpoint_commands.specs.Commands.{breakpoint_refusal, breakpoint_response, breakpoint_table}
-use Rattle.dp_breakpoint_commands.specs.Notices.{breakpoint_notice}
+use Rattle.dp_break.specs.Commands.{breakpoint_refusal, breakpoint_response, breakpoint_table}
+use Rattle.dp_break.specs.Notices.{breakpoint_notice}
 use Rattle.dp_command.specs.declared.command.Continuation.{Continuation}
 use Rattle.dp_command.specs.declared.command.Command.{Command}
 use Rattle.dp_command.specs.declared.command.StreamMode.{StreamMode}

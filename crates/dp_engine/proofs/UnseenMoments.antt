@@ -20,7 +20,8 @@ use Rattle.dp_state.specs.declared.state.State.{State}
 use Rattle.dp_actions.specs.declared.signal.Signal.{Signal}
 use Rattle.dp_meaning.specs.declared.writes.NumberedWrite.{NumberedWrite}
 use Rattle.dp_meaning.specs.Trace.{Trace, program_trace}
-use Rattle.dp_quiet.specs.Quiet.{AreLoud, is_free, is_unwatched}
+use Rattle.dp_analysis.specs.Quiet.{AreLoud, is_free}
+use Rattle.dp_meaning.specs.Unwatched.{is_unwatched}
 use Rattle.dp_step.specs.declared.machine.Machine.{Machine}
 use Rattle.dp_step.specs.declared.machine.Progress.{Progress}
 use Rattle.dp_step.specs.Past.{ArePassed, GoesPast, IsPassed}

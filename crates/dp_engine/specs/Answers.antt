@@ -2,8 +2,8 @@
 -- "Continuation Commands".
 use Rattle.std.specs.Prelude.{ℕ, nat_le, true, false, if◌then◌else◌, List, length, [], ◌∷◌, ◌++◌, Option, Some, None, Result, Ok, Err, is_some, option_map, option_and_then, codes}
 use Rattle.std.specs.Option.{option_map_or}
-use Rattle.dp_breakpoint_commands.specs.Commands.{breakpoint_response, breakpoint_table}
-use Rattle.dp_breakpoint_commands.specs.Notices.{breakpoint_notice}
+use Rattle.dp_break.specs.Commands.{breakpoint_response, breakpoint_table}
+use Rattle.dp_break.specs.Notices.{breakpoint_notice}
 use Rattle.dp_command.specs.declared.command.Command.{Command}
 use Rattle.dp_command.specs.declared.command.Continuation.{Continuation}
 use Rattle.dp_command.specs.declared.command.Finish.TheVariants.{Stop, Detach}

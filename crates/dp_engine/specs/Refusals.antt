@@ -2,7 +2,7 @@
 -- code, and their order, are this engine's own.
 use Rattle.std.specs.Prelude.{ℕ, Bool, true, false, not, List, [], ◌∷◌, Option, Some, None, is_none}
 use Rattle.std.specs.Option.{option_map_or}
-use Rattle.dp_breakpoint_commands.specs.Commands.{breakpoint_refusal}
+use Rattle.dp_break.specs.Commands.{breakpoint_refusal}
 use Rattle.dp_command.specs.declared.line.Line.{Line}
 use Rattle.dp_command.specs.declared.names.CommandName.{CommandName}
 use Rattle.dp_command.specs.declared.command.Request.{Request}

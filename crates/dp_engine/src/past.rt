@@ -4,14 +4,14 @@ ghost use Rattle.std.specs.Prelude.{◌≡◌, ◌≤◌, ◌+◌, ℕ, List, If
 ghost use Rattle.dp_engine.specs.Stops.{stops};
 ghost use Rattle.dp_engine.specs.inner.Unseen.{GoesUnseen, are_covered, is_covered};
 ghost use Rattle.dp_meaning.specs.declared.writes.NumberedWrite.{NumberedWrite as AnyWrite};
-ghost use Rattle.dp_quiet.specs.Quiet.{AreLoud, is_free as is_free_of};
+ghost use Rattle.dp_analysis.specs.Quiet.{AreLoud, is_free as is_free_of};
 ghost use Rattle.dp_state.specs.declared.moments.Moment.{Moment as AnyMoment};
 ghost use Rattle.dp_step.specs.Stands.{GoesOn, StandsFor, steps_of};
 ghost use Rattle.dp_tree.specs.declared.bundle.Bundle.{Bundle as SomeBundle};
 
+use dp_analysis::DeepNames;
 use dp_break::{Breakpoint, Breaks, is_of_function};
 use dp_command::Continuation;
-use dp_quiet::DeepNames;
 use dp_step::{Machine, Progress, Steps};
 use dp_tree::Bundle;
 use dp_value::Memory;

@@ -15,7 +15,7 @@ ghost use Rattle.dp_engine.specs.inner.Turns.{Responds, Tells};
 use crate::responses;
 use crate::session::SessionEnd;
 use crate::states::Position;
-use dp_breakpoint_commands::Answered;
+use dp_break::Answered;
 use dp_command::{Addressee, CommandName};
 use dp_features::{Feature, Features};
 use dp_packet::{ErrorCode, Notify, Packet, Response, text_of};

@@ -13,7 +13,7 @@ use crate::responses;
 use crate::session::{Session, SessionEnd};
 use crate::states::{Phase, Position};
 use crate::writes::accept;
-use dp_breakpoint_commands::{BreakpointError, Wishes, answer_breakpoints};
+use dp_break::{BreakError, Wishes, answer_breakpoints};
 use dp_command::{
     Addressee, BreakpointRequest, CommandError, Continuation, Finish, Line, LookRequest, Request,
     SessionRequest, Stream, StreamMode, WriteRequest,
@@ -155,8 +155,8 @@ impl<'a> Session<'a> {
             wishes,
         ) {
             Ok(answered) => Ok(tell_behind(answered)),
-            Err(BreakpointError::Code(code)) => self.refuse(alloc, to, code),
-            Err(BreakpointError::Memory) => Err(Memory),
+            Err(BreakError::Code(code)) => self.refuse(alloc, to, code),
+            Err(BreakError::Memory) => Err(Memory),
         }
     }
 

@@ -2,10 +2,7 @@
 
 use crate::answers::{Answer, attribute, bare};
 use crate::session::Session;
-use dp_break::BreakError;
-use dp_breakpoint_commands::{
-    BreakpointError, breakpoint_change, breakpoint_line, breakpoint_request,
-};
+use dp_break::{BreakError, breakpoint_change, breakpoint_line, breakpoint_request};
 use dp_command::{BreakpointSet, BreakpointUpdate};
 use dp_packet::{Body, ErrorCode};
 use dp_rows::Memory;
@@ -56,8 +53,7 @@ pub(crate) fn set(session: &mut Session, asked: BreakpointSet) -> Result<Answer,
     }
     let request = match breakpoint_request(alloc, &session.bundle, file, asked) {
         Ok(request) => request,
-        Err(BreakpointError::Code(code)) => return Ok(Answer::Code(code)),
-        Err(BreakpointError::Memory) => return Err(Memory),
+        Err(error) => return refused(error),
     };
     let enabled = request.enabled;
     match session.breaks.add(&session.bundle, request, false) {
@@ -106,8 +102,8 @@ pub(crate) fn update(session: &mut Session, asked: &BreakpointUpdate) -> Answer 
     };
     let change = match breakpoint_change(kind, asked) {
         Ok(change) => change,
-        Err(BreakpointError::Code(code)) => return Answer::Code(code),
-        Err(BreakpointError::Memory) => return Answer::Nothing,
+        Err(BreakError::Code(code)) => return Answer::Code(code),
+        Err(BreakError::Memory) => return Answer::Nothing,
     };
     match session
         .breaks

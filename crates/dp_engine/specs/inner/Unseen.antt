@@ -11,7 +11,7 @@ use Rattle.dp_state.specs.declared.state.State.{State}
 use Rattle.dp_actions.specs.declared.signal.Signal.{Signal}
 use Rattle.dp_meaning.specs.declared.writes.NumberedWrite.{NumberedWrite}
 use Rattle.dp_meaning.specs.Trace.{Trace, moment_at, program_trace}
-use Rattle.dp_quiet.specs.Quiet.{is_free}
+use Rattle.dp_analysis.specs.Quiet.{is_free}
 use Rattle.dp_step.specs.declared.machine.Machine.{Machine}
 use Rattle.dp_step.specs.declared.machine.Progress.{Progress}
 use Rattle.dp_step.specs.Stands.{GoesOn, steps_of}

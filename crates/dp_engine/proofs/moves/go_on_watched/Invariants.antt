@@ -1,5 +1,5 @@
 use Rattle.std.proofs.Common.{ℕ, List}
-use Rattle.dp_quiet.specs.Quiet.{AreLoud}
+use Rattle.dp_analysis.specs.Quiet.{AreLoud}
 use Rattle.dp_meaning.specs.declared.writes.NumberedWrite.{NumberedWrite}
 use Rattle.dp_step.specs.Stands.{StandsFor}
 use Rattle.dp_engine.specs.Stops.{stops}

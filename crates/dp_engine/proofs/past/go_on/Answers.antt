@@ -1,7 +1,7 @@
 use Rattle.std.proofs.Common.{◌≡◌, is_some, ap, subst, sym, ◌∙◌}
 use Rattle.std.proofs.lemmas.Result.{IfOk-weaker}
 use Rattle.std.specs.Option.{option_copied}
-use Rattle.dp_quiet.specs.Quiet.{AreLoud}
+use Rattle.dp_analysis.specs.Quiet.{AreLoud}
 use Rattle.dp_engine.specs.Stops.{stops}
 use Rattle.dp_engine.specs.inner.Unseen.{are_covered}
 use Rattle.dp_engine.proofs.UnseenMoments.{goes-unseen, steps-unseen}

@@ -1,5 +1,5 @@
 use Rattle.std.proofs.Common.{◌≡◌, drop}
-use Rattle.dp_quiet.specs.Quiet.{is_free}
+use Rattle.dp_analysis.specs.Quiet.{is_free}
 use Rattle.dp_engine.proofs.past.is_free.Given as goal
 
 abbrev pub invariant-loop-other : goal.invariant-loop-other

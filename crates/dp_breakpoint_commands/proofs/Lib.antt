@@ -1,4 +1,0 @@
-pub mod RequestTests
-pub mod Lengths
-pub mod Shown
-pub mod UpdateTests

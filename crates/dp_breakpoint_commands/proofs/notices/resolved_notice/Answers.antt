@@ -1,9 +1,0 @@
-use Rattle.dp_breakpoint_commands.specs.Lines.{breakpoint_line}
-use Rattle.dp_breakpoint_commands.proofs.Shown.{notice_fits, shown_short}
-use Rattle.dp_breakpoint_commands.proofs.notices.resolved_notice.Goals as goal
-
-pub returns-clause-short : goal.returns-clause-short
-returns-clause-short c =
-    let line = breakpoint_line c.args.bundle.now c.args.b.now in
-    let short = shown_short c.args.bundle.now c.args.b.now c.requires.names c.requires.sound c.read_numbers.ensures in
-    rw (c.in_ok-line.ensures.line, c.in_ok-name.ensures) (notice_fits line short)
