@@ -1,5 +1,5 @@
 -- The one spelling of a line that is written, and the lines that have one.
-use Rattle.std.specs.Prelude.{◌≡◌, ℕ, true, Bool, if◌then◌else◌, not, ◌||◌, ◌&&◌, ◌==◌, List, [], ◌∷◌, ◌++◌, length, Option, Some, None, IfSome}
+use Rattle.std.specs.Prelude.{◌≡◌, ℕ, true, Bool, if◌then◌else◌, not, ◌||◌, ◌&&◌, ◌==◌, List, [], ◌∷◌, ◌++◌, length, codes, Option, Some, None, IfSome}
 use Rattle.std.specs.List.{flat_map, AllByRecursion}
 use Rattle.base64.specs.Engines.{standard}
 use Rattle.base64.specs.GeneralPurpose.{encode_of, IsBytes}
@@ -19,17 +19,17 @@ needs_quotes value = (length value == 0) || not (all_bare value)
 
 -- a value between quotes
 abbrev pub quoted : List ℕ → List ℕ
-quoted value = 34 ∷ (flat_map in_quotes value ++ 34 ∷ [])
+quoted value = codes "\"" ++ flat_map in_quotes value ++ codes "\""
 
 abbrev pub canonical_value : List ℕ → List ℕ
 canonical_value value = if needs_quotes value then quoted value else value
 
 abbrev pub canonical_option : ℕ × List ℕ → List ℕ
-canonical_option o = 32 ∷ 45 ∷ o.0 ∷ 32 ∷ canonical_value o.1
+canonical_option o = codes " -" ++ o.0 ∷ (codes " " ++ canonical_value o.1)
 
 abbrev pub canonical_payload : Option (List ℕ) → List ℕ
 canonical_payload None = []
-canonical_payload (Some payload) = 32 ∷ 45 ∷ 45 ∷ 32 ∷ encode_of standard payload
+canonical_payload (Some payload) = codes " -- " ++ encode_of standard payload
 
 abbrev pub canonical : Line → List ℕ
 canonical line =

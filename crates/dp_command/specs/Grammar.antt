@@ -1,6 +1,6 @@
 -- The grammar of command lines: DBGp 1.0, "Command Line Format" under "IDE to debugger engine
 -- communications"; the pairs of quoted values and repeated spaces are this engine's own.
-use Rattle.std.specs.Prelude.{◌≡◌, ℕ, ◌≤◌, true, ◌⊎◌, List, [], ◌∷◌, length, Option, Some, None}
+use Rattle.std.specs.Prelude.{◌≡◌, ℕ, ◌≤◌, true, ◌⊎◌, List, [], ◌∷◌, ◌++◌, length, codes, Option, Some, None}
 use Rattle.base64.specs.Engines.{standard}
 use Rattle.base64.specs.GeneralPurpose.{encode_of, IsBytes}
 use Rattle.dp_value.specs.Quotes.{in_quotes}
@@ -42,14 +42,14 @@ InQuotes b = Mark (in_quotes b)
 
 -- quote *( plain | pair ) quote
 abbrev pub Quoted : List ℕ → Rule
-Quoted value = Mark (34 ∷ []) >> Repeated InQuotes value >> Mark (34 ∷ [])
+Quoted value = Mark (codes "\"") >> Repeated InQuotes value >> Mark (codes "\"")
 
 abbrev pub Value : List ℕ → Rule
 Value value bytes = Bare value bytes ⊎ Quoted value bytes
 
 -- "-" letter 1*SP value
 abbrev pub Argument : ℕ × List ℕ → Rule
-Argument o bytes = (is_letter o.0 ≡ true) × (Mark (45 ∷ o.0 ∷ []) >> SomeSpaces >> Value o.1) bytes
+Argument o bytes = (is_letter o.0 ≡ true) × (Mark (codes "-" ++ o.0 ∷ []) >> SomeSpaces >> Value o.1) bytes
 
 -- 1*SP option
 abbrev pub Given : ℕ × List ℕ → Rule
@@ -62,7 +62,7 @@ Payload payload bytes = IsBytes payload × (bytes ≡ encode_of standard payload
 -- [ 1*SP "--" 1*SP payload ] *SP
 abbrev pub Ending : Option (List ℕ) → Rule
 Ending None = Spaces
-Ending (Some payload) = SomeSpaces >> Mark (45 ∷ 45 ∷ []) >> SomeSpaces >> Payload payload >> Spaces
+Ending (Some payload) = SomeSpaces >> Mark (codes "--") >> SomeSpaces >> Payload payload >> Spaces
 
 -- these bytes spell this line: name *( 1*SP option ) [ 1*SP "--" 1*SP payload ] *SP
 abbrev pub spelt : List ℕ → Line → Type 0

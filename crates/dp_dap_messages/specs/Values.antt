@@ -36,7 +36,7 @@ abbrev pub layer_text : Layer → List ℕ
 layer_text Shape-F.Null = codes "null"
 layer_text (Shape-F.Bool b) = if b then codes "true" else codes "false"
 layer_text (Shape-F.Int i) = signed_decimal i
-layer_text (Shape-F.Text size front) = 34 ∷ (front ++ 34 ∷ [])
+layer_text (Shape-F.Text size front) = codes "\"" ++ front ++ codes "\""
 layer_text (Shape-F.Array n page pagesize nested) = codes "array(" ++ (decimal n ++ codes ")")
 
 -- an array, with or without entries
@@ -104,7 +104,8 @@ frame line =
     (member (codes "line") (count line.line)
     (member (codes "name") (php line.place)
     (member (codes "source")
-    (object (member (codes "path") (php (47 ∷ name_in line.uri)) no_members)) no_members)))))
+    (object (member (codes "path") (php (codes "/" ++ name_in line.uri)) no_members))
+    no_members)))))
 
 -- from a first one, at most so many; 0 are all
 abbrev pub some_of : ℕ → ℕ → List StackLine → List StackLine

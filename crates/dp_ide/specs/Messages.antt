@@ -1,6 +1,6 @@
 -- Packets as an IDE looks at them: the element that came, and the packet of DBGp 1.0 that it is.
 use Rattle.std.specs.Prelude.{ℕ, Bool, true, false, if◌then◌else◌, List, [], ◌∷◌, map, Option, Some, None}
-use Rattle.std.specs.Option.{option_map_or}
+use Rattle.std.specs.Option.{option_map_or, option_or}
 use Rattle.std.specs.Fmt.{signed_decimal}
 use Rattle.std.specs.Str.{bytes_eq}
 use Rattle.dp_markup.specs.Grammar.{IsMarkup}
@@ -12,7 +12,6 @@ use Rattle.dp_packet.specs.declared.packet.Body.TheVariants as body
 use Rattle.dp_packet.specs.declared.property.Property.{Property, fold-Property}
 use Rattle.dp_packet.specs.declared.property.Shape.{Shape, fold-Shape}
 use Rattle.dp_packet.specs.declared.property.Shape.TheOpen.{Shape-F, Property-F}
-use Rattle.dp_reply.specs.Contents.{◌or◌}
 use Rattle.dp_reply.specs.Readings.{IsPacket}
 use Rattle.dp_ide.specs.declared.heard.Message.{Message}
 
@@ -67,7 +66,7 @@ properties_in other = []
 -- the first there is
 abbrev pub first_some : List (Option (List ℕ)) → Option (List ℕ)
 first_some [] = None
-first_some (one ∷ others) = one or first_some others
+first_some (one ∷ others) = option_or one (first_some others)
 
 -- what a value is, decoded, and what was found in it, where it was looked for in its entries
 pub record Content : Type 0 where

@@ -1,5 +1,5 @@
 -- Scripts of the IDE: one instruction a line. Empty lines and lines that begin with `#` do nothing.
-use Rattle.std.specs.Prelude.{◌≡◌, ◌≢◌, ◌⊎◌, ℕ, ◌+◌, ◌*◌, ◌≤◌, true, List, [], ◌∷◌, length, Option, Some, codes}
+use Rattle.std.specs.Prelude.{◌≡◌, ◌≢◌, ◌⊎◌, ℕ, ◌+◌, ◌*◌, ◌≤◌, true, List, [], ◌∷◌, ◌++◌, length, Option, Some, codes}
 use Rattle.dp_command.specs.declared.line.Line.{Line}
 use Rattle.dp_command.specs.Grammar.{spelt}
 use Rattle.dp_command.specs.Letters as letter
@@ -36,7 +36,7 @@ byte_of high low = digit_of high >>= λ h. digit_of low >>= λ l. Some (h * 16 +
 pub record InHexadecimal (byte : ℕ) (bytes : List ℕ) : Type 0 where
   pub high : ℕ
   pub low : ℕ
-  pub whole : bytes ≡ 92 ∷ 120 ∷ high ∷ low ∷ []
+  pub whole : bytes ≡ codes "\\x" ++ high ∷ low ∷ []
   pub digits : byte_of high low ≡ Some byte
 
 -- A byte stands for itself, but for a backslash: `\n` is a line feed, `\\` a backslash, and `\xHH`

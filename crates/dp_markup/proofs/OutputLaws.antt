@@ -1,8 +1,7 @@
 -- What is put in steps.
-use Rattle.std.proofs.Common.{◌≡◌, ℕ, ◌-◌, ◌==◌, ◌++◌, ◌&&◌, true, List, [], length, Option, Some, None, refl, ap, append-nil, append_assoc, length-append, arith}
-use Rattle.std.specs.Prelude.{is_none, option_map}
-use Rattle.std.proofs.lemmas.Bool.{eqb-true}
-use Rattle.dp_markup.specs.Outputs.{Written, behind, is_full}
+use Rattle.std.proofs.Common.{◌≡◌, ℕ, ◌-◌, ◌++◌, List, [], length, Option, Some, None, refl, ap, append-nil, append_assoc, length-append, arith}
+use Rattle.std.specs.Prelude.{option_map}
+use Rattle.dp_markup.specs.Outputs.{Written, behind}
 
 pub behind_both : (w : Written) (a b : List ℕ) → behind (behind w a) b ≡ behind w (a ++ b)
 behind_both w a b =
@@ -22,17 +21,6 @@ behind_nothing w =
     texts : (o : Option (List ℕ)) → option_map (λ text. text ++ []) o ≡ o
     texts None = refl
     texts (Some text) = ap (λ (l : List ℕ). Some l) (append-nil text)
-
-pub full_behind : (w : Written) (a : List ℕ) → is_full w ≡ true → behind w a ≡ w
-full_behind w a full = by w.text full where
-  by : (o : Option (List ℕ)) → (is_none o && w.left == 0) ≡ true
-      → ◌≡◌ {A = Written} (record { text = option_map (λ text. text ++ a) o; left = w.left - length a })
-      (record { text = o; left = w.left })
-  by (Some text) is = absurd cc
-  by None is =
-      let zero_left : w.left ≡ 0 = eqb-true w.left 0 is in
-      let same : w.left - length a ≡ w.left = omega (arith, zero_left) in
-      λ i. record { text = None; left = same i }
 
 -- how many bytes are left of so many
 pub left_is : (n m : ℕ) (bytes : List ℕ)

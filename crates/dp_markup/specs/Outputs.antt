@@ -1,5 +1,5 @@
 -- Where a text is put: into memory, or into a count of bytes that ends at 0.
-use Rattle.std.specs.Prelude.{ℕ, ◌-◌, ◌++◌, ◌==◌, Bool, ◌&&◌, is_none, List, length, Option, option_map}
+use Rattle.std.specs.Prelude.{ℕ, ◌-◌, ◌++◌, List, length, Option, option_map}
 
 -- the text that was put, where it is kept, and how many bytes are left of a count
 pub record Written : Type 0 where
@@ -12,7 +12,3 @@ behind old bytes = record {
   text = option_map (λ text. text ++ bytes) old.text;
   left = old.left - length bytes;
 }
-
--- no byte more is counted
-abbrev pub is_full : Written → Bool
-is_full w = is_none w.text && w.left == 0

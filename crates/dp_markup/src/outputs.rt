@@ -2,7 +2,7 @@
 
 ghost use Rattle.std.specs.Prelude.{◌≡◌, ◌∷◌, [], None, Some, IsTrue, OnOk};
 ghost use Rattle.dp_markup.specs.Escapes.{decimal, escaped, escaped_all, plain_or_number};
-ghost use Rattle.dp_markup.specs.Outputs.{Written, behind, is_full as full};
+ghost use Rattle.dp_markup.specs.Outputs.{Written, behind};
 ghost use Rattle.dp_markup.specs.Texts.{attribute_text};
 
 use crate::Memory;
@@ -19,10 +19,6 @@ pub trait Output {
     /// Puts bytes behind others.
     fn put(&mut self, bytes: &[u8]) -> Result<(), Self::Error>
         ensures { OnOk result (seen self.new ≡ behind (seen self.old) bytes.now) };
-
-    /// Whether what is put changes nothing any more.
-    fn is_full(&self) -> bool
-        ensures { result ≡ full (seen self.now) };
 }
 
 /// A text in memory. The only error is out of memory.
@@ -46,10 +42,6 @@ impl Output for TextOutput {
             _ => self.text.extend_from_slice(bytes),
         }
     }
-
-    fn is_full(&self) -> bool {
-        false
-    }
 }
 
 /// How many bytes are left of a count. There is no error: at 0 nothing more is counted.
@@ -66,10 +58,6 @@ impl Output for Counter {
     fn put(&mut self, bytes: &[u8]) -> Result<(), Infallible> {
         self.left = self.left.saturating_sub(bytes.len() as u64);
         Ok(())
-    }
-
-    fn is_full(&self) -> bool {
-        self.left == 0
     }
 }
 

@@ -17,7 +17,7 @@ hexadecimal digit = if nat_lt digit 10 then 48 + digit else 55 + digit
 abbrev pub encoded : ℕ → Text
 encoded b =
     if stands_for_itself b then b ∷ []
-    else 37 ∷ hexadecimal (b / 16) ∷ hexadecimal (b % 16) ∷ []
+    else codes "%" ++ hexadecimal (b / 16) ∷ hexadecimal (b % 16) ∷ []
 
 -- the URI of the file with this name
 unfoldable pub file_uri : Text → Text

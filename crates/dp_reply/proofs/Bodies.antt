@@ -2,6 +2,7 @@
 use Rattle.std.proofs.Common.{◌≡◌, ℕ, Bool, true, false, List, [], ◌∷◌, Some, None, refl, ap, ◌∙◌, map, codes, decimal, nat_le, arith}
 use Rattle.std.proofs.lemmas.Bool.{and_parts}
 use Rattle.std.specs.List.{list_all, AllByRecursion}
+use Rattle.std.specs.Option.{option_or}
 use Rattle.dp_markup.specs.declared.tree.Element.{Element}
 use Rattle.dp_markup.specs.declared.tree.Node.TheVariants as node
 use Rattle.dp_markup.specs.Grammar.{limit}
@@ -14,7 +15,7 @@ use Rattle.dp_packet.specs.declared.property.Property.{Property}
 use Rattle.dp_packet.specs.Parts.{Text, element}
 use Rattle.dp_packet.specs.Messages.{message_of}
 use Rattle.dp_packet.specs.Packets.{body_nodes, message_node}
-use Rattle.dp_reply.specs.Contents.{◌>>=◌, ◌or◌, is_named, is_foreign, words, elements, most_16}
+use Rattle.dp_reply.specs.Contents.{◌>>=◌, is_named, is_foreign, words, elements, most_16}
 use Rattle.dp_reply.specs.Readings.{stack_in, context_in, property_in, property_within, breakpoint_in, fault_in, stacks_in, contexts_in, properties_in, breakpoints_in, rows_in, list_in, body_of}
 use Rattle.dp_reply.specs.Norm.{norm_body, is_body, is_stack_line, is_context, is_break_line}
 use Rattle.dp_reply.proofs.Leaves.{number_is}
@@ -42,9 +43,9 @@ stacks_are line lines sound =
     let all = line ∷ lines in
     let found = each_is stack_in stack_element all (all_are is_stack_line
     (λ s. stack_in (stack_element s) ≡ Some s) stack_is all sound) in
-    ap (λ fault. fault or stacks_in (map stack_element all) or rows_in (map stack_element all))
+    ap (λ fault. option_or fault (option_or (stacks_in (map stack_element all)) (rows_in (map stack_element all))))
     (no_fault (stack_element line) (map stack_element lines) refl)
-    ∙ ap (λ r. (r >>= λ lines. Some (body.Stacks lines)) or rows_in (map stack_element all)) found
+    ∙ ap (λ r. option_or (r >>= λ lines. Some (body.Stacks lines)) (rows_in (map stack_element all))) found
 
 no_stacks : (e : Element) (all : List Element) → is_named (codes "stack") e ≡ false → stacks_in (e ∷ all) ≡ None
 unfolding stack_in
@@ -64,8 +65,8 @@ rows : (e : Element) (all : List Element) → is_named (codes "error") e ≡ fal
     → list_in (e ∷ all) ≡ rows_in (e ∷ all)
 unfolding list_in
 rows e all x y =
-    ap (λ fault. fault or stacks_in (e ∷ all) or rows_in (e ∷ all)) (no_fault e all x)
-    ∙ ap (λ stacks. stacks or rows_in (e ∷ all)) (no_stacks e all y)
+    ap (λ fault. option_or fault (option_or (stacks_in (e ∷ all)) (rows_in (e ∷ all)))) (no_fault e all x)
+    ∙ ap (λ stacks. option_or stacks (rows_in (e ∷ all))) (no_stacks e all y)
 
 contexts_are : (c : Text × ℕ) (cs : List (Text × ℕ)) → list_all is_context (c ∷ cs) ≡ true
     → list_in (map context_element (c ∷ cs)) ≡ Some (body.Contexts (c ∷ cs))
@@ -76,7 +77,7 @@ contexts_are c cs sound =
     let found = each_is context_in context_element all (all_are is_context
     (λ c. context_in (context_element c) ≡ Some c) context_is all sound) in
     rows (context_element c) (map context_element cs) refl refl
-    ∙ ap (λ r. (r >>= λ cs. Some (body.Contexts cs)) or properties_in es or breakpoints_in es) found
+    ∙ ap (λ r. option_or (r >>= λ cs. Some (body.Contexts cs)) (option_or (properties_in es) (breakpoints_in es))) found
 
 properties_are : (p : Property) (ps : List Property)
     → AllByRecursion (λ p. property_in (property_element p) ≡ Some p) (p ∷ ps)
@@ -87,9 +88,9 @@ properties_are p ps is =
     let es = map property_element all in
     let found = each_is property_in property_element all is in
     rows (property_element p) (map property_element ps) refl refl
-    ∙ ap (λ contexts. contexts or properties_in es or breakpoints_in es)
+    ∙ ap (λ contexts. option_or contexts (option_or (properties_in es) (breakpoints_in es)))
     (no_contexts (property_element p) (map property_element ps) refl)
-    ∙ ap (λ r. (r >>= λ ps. Some (body.Properties ps)) or breakpoints_in es) found
+    ∙ ap (λ r. option_or (r >>= λ ps. Some (body.Properties ps)) (breakpoints_in es)) found
 
 breakpoints_are : (b : BreakLine) (bs : List BreakLine) → list_all is_break_line (b ∷ bs) ≡ true
     → list_in (map breakpoint_element (b ∷ bs)) ≡ Some (body.Breakpoints (b ∷ bs))
@@ -100,9 +101,9 @@ breakpoints_are b bs sound =
     let found = each_is breakpoint_in breakpoint_element all (all_are is_break_line
     (λ b. breakpoint_in (breakpoint_element b) ≡ Some b) breakpoint_is all sound) in
     rows (breakpoint_element b) (map breakpoint_element bs) refl refl
-    ∙ ap (λ contexts. contexts or properties_in es or breakpoints_in es)
+    ∙ ap (λ contexts. option_or contexts (option_or (properties_in es) (breakpoints_in es)))
     (no_contexts (breakpoint_element b) (map breakpoint_element bs) refl)
-    ∙ ap (λ properties. properties or breakpoints_in es) (no_properties (breakpoint_element b)
+    ∙ ap (λ properties. option_or properties (breakpoints_in es)) (no_properties (breakpoint_element b)
     (map breakpoint_element bs) refl)
     ∙ ap (λ r. r >>= λ bs. Some (body.Breakpoints bs)) found
 
@@ -115,7 +116,7 @@ fault_is : (code : ℕ) → nat_le code most_16 ≡ true → list_in (error_elem
 unfolding list_in error_element
 fault_is code sound =
     let es = error_element code ∷ [] in
-    ap (λ n. (n >>= λ code. Some (body.Fault code)) or stacks_in es or rows_in es)
+    ap (λ n. option_or (n >>= λ code. Some (body.Fault code)) (option_or (stacks_in es) (rows_in es)))
     (number_is most_16 code sound (omega arith))
 
 -- ---- bodies

@@ -14,12 +14,6 @@ pub use Rattle.dp_grammar.specs.Prefixes.{◌>>=◌}
 
 -- ---- what may be missing
 
--- the one, or else the other
-infixr 9 ◌or◌
-abbrev pub ◌or◌ : {A : Type 0} → Option A → Option A → Option A
-None or other = other
-(Some a) or other = Some a
-
 -- what each of them is, where each is one
 abbrev pub each : {A B : Type 0} → (A → Option B) → List A → Option (List B)
 each f [] = Some []

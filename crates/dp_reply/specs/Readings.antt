@@ -1,6 +1,7 @@
 -- Which element is which packet (DBGp 1.0). Each part of a packet is found in its place; what a
 -- packet does not keep is not looked at.
 use Rattle.std.specs.Prelude.{◌≡◌, ℕ, zero, suc, nat_le, Bool, true, false, not, ◌||◌, if◌then◌else◌, List, [], ◌∷◌, length, Option, Some, None, option_map, codes, filter}
+use Rattle.std.specs.Option.{option_or}
 use Rattle.dp_value.specs.IntText.{int_of_text}
 use Rattle.dp_markup.specs.declared.tree.Element.{Element}
 use Rattle.dp_markup.specs.Grammar.{same_text, limit}
@@ -23,7 +24,7 @@ use Rattle.dp_packet.specs.declared.property.Property.{Property}
 use Rattle.dp_packet.specs.declared.property.Shape.{Shape}
 use Rattle.dp_packet.specs.declared.property.Shape.TheVariants as shape
 use Rattle.dp_packet.specs.Parts.{Text}
-use Rattle.dp_reply.specs.Contents.{◌>>=◌, ◌or◌, each, most_8, most_16, most_32, most_64, flag_in, bytes_in, attribute, number_at, optional_number, is_named, is_namespace, words, elements, text_in, elements_in, only, only_in}
+use Rattle.dp_reply.specs.Contents.{◌>>=◌, each, most_8, most_16, most_32, most_64, flag_in, bytes_in, attribute, number_at, optional_number, is_named, is_namespace, words, elements, text_in, elements_in, only, only_in}
 
 -- ---- properties
 
@@ -222,11 +223,12 @@ abbrev pub breakpoints_in : List Element → Option Body
 breakpoints_in all = each breakpoint_in all >>= λ lines. Some (body.Breakpoints lines)
 
 unfoldable pub rows_in : List Element → Option Body
-rows_in all = contexts_in all or properties_in all or breakpoints_in all
+rows_in all =
+    option_or (contexts_in all) (option_or (properties_in all) (breakpoints_in all))
 
 -- an error, or elements of one kind
 unfoldable pub list_in : List Element → Option Body
-list_in all = fault_in all or stacks_in all or rows_in all
+list_in all = option_or (fault_in all) (option_or (stacks_in all) (rows_in all))
 
 -- what stands in a response: nothing, a text, or elements
 unfoldable pub body_of : List Element → Text → Option Body

@@ -1,6 +1,6 @@
 -- The names of properties that are read: DBGp 1.0, "Properties, variables and values", on
 -- `fullname`. Single quotes, the missing `$` and the escapes are this engine's own.
-use Rattle.std.specs.Prelude.{◌≡◌, ℕ, ℤ, ◌≤◌, true, Bool, not, ◌&&◌, ◌⊎◌, ◌==◌, if◌then◌else◌, List, [], ◌∷◌, length, codes, Option, Some, None}
+use Rattle.std.specs.Prelude.{◌≡◌, ℕ, ℤ, ◌≤◌, true, Bool, not, ◌&&◌, ◌⊎◌, ◌==◌, if◌then◌else◌, List, [], ◌∷◌, ◌++◌, length, codes, Option, Some, None}
 use Rattle.std.specs.List.{AllByRecursion}
 use Rattle.dp_lexer.specs.Pieces.{IsName, longest_name}
 use Rattle.dp_state.specs.declared.moments.Path.{Path}
@@ -40,7 +40,7 @@ pair_of quote c =
 abbrev pub Within : ℕ → ℕ → Part ℕ
 Within quote b bytes =
     ((is_plain quote b ≡ true) × (bytes ≡ b ∷ []))
-    ⊎ ((c : ℕ) × (pair_of quote c ≡ Some b) × (bytes ≡ 92 ∷ c ∷ []))
+    ⊎ ((c : ℕ) × (pair_of quote c ≡ Some b) × (bytes ≡ codes "\\" ++ c ∷ []))
 
 -- a text between quotes
 abbrev pub Quoted : ℕ → List ℕ → Part ℕ

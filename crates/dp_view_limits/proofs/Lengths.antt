@@ -1,5 +1,5 @@
 -- How long names are where they are escaped, and how long properties are by their parts.
-use Rattle.std.proofs.Common.{◌≡◌, ℕ, ℤ, ◌+◌, List, [], ◌∷◌, ◌++◌, length, codes, refl, ap, arith, length-append}
+use Rattle.std.proofs.Common.{◌≡◌, ℕ, ℤ, ◌+◌, List, [], ◌∷◌, ◌++◌, length, codes, ap, arith, length-append}
 use Rattle.std.specs.Prelude.{flat_map}
 use Rattle.std.specs.Fmt.{signed_decimal}
 use Rattle.dp_markup.specs.Escapes.{escaped, escaped_all}
@@ -11,12 +11,12 @@ use Rattle.dp_packet.specs.inner.Shapes.{names_of, shape_part}
 use Rattle.dp_packet.specs.inner.Sizes.{attributes_size}
 use Rattle.dp_packet.proofs.OutLaws.{words_text}
 use Rattle.dp_packet.proofs.PropertyTexts.{property_is}
-use Rattle.dp_packet.proofs.SizeLaws.{attribute_length}
+use Rattle.dp_packet.proofs.SizeLaws.{attributes_length}
 use Rattle.dp_state.specs.declared.moments.Path.{Path}
 use Rattle.dp_value.specs.declared.key.Key.{Key}
 use Rattle.dp_value.specs.Quotes.{in_quotes}
 use Rattle.dp_view.specs.Names.{full_name, index_of, int_index, sigil, text_index, variable_name}
-use Rattle.dp_view_limits.specs.inner.Sizes.{text_size}
+use Rattle.dp_view_limits.specs.inner.Sizes.{property_frame, text_size}
 
 -- ---- names
 
@@ -68,16 +68,6 @@ indices_more key keys = text_size-append (index_of key) (flat_map index_of keys)
 
 -- ---- properties
 
-attributes_length : (attributes : Attributes) → length (flat_map attribute_text attributes) ≡ attributes_size attributes
-attributes_length [] = refl
-attributes_length (a ∷ more) =
-    omega (
-      arith,
-      length-append (attribute_text a) (flat_map attribute_text more),
-      attribute_length a.0 a.1,
-      attributes_length more,
-    )
-
 attributes_append : (a b : Attributes) → attributes_size (a ++ b) ≡ attributes_size a + attributes_size b
 attributes_append [] b = omega arith
 attributes_append (x ∷ a) b = omega (arith, attributes_append a b)
@@ -87,7 +77,7 @@ pub words_length : (bytes : Text) → length (nodes_text (text_nodes bytes)) ≡
 words_length bytes = ap length (words_text bytes)
 
 pub property_length : (q : Property) → length (node_text (property_node q))
-    ≡ 21 + (attributes_size (given (codes "name") q.name) + attributes_size
+    ≡ property_frame + (attributes_size (given (codes "name") q.name) + attributes_size
     (given (codes "fullname") q.fullname) + attributes_size (shape_part q.shape).0)
     + length (nodes_text (shape_part q.shape).1)
 property_length q =

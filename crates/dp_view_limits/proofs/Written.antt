@@ -24,7 +24,7 @@ use Rattle.dp_view.specs.declared.paging.Paging.{Paging}
 use Rattle.dp_view.specs.Names.{entry_name, full_name, index_of, key_text, own_name, variable_name}
 use Rattle.dp_view.specs.Properties.{entry_property, nested, page_of, path_property, shape_of, shown, variable_path, variable_shown, variable_value}
 use Rattle.dp_view_limits.specs.Limits.{properties_size, property_size}
-use Rattle.dp_view_limits.specs.inner.Sizes.{entries_size, entry_size, full_behind, given_size, named_size, text_size, value_size, variable_size}
+use Rattle.dp_view_limits.specs.inner.Sizes.{entries_size, entry_size, full_behind, full_frame, given_size, name_frame, named_size, property_frame, text_size, value_size, variable_size}
 use Rattle.dp_view_limits.proofs.Lengths.{property_length, text_size-append, words_length}
 
 -- ---- values
@@ -60,8 +60,8 @@ given_is name None = refl
 given_is name (Some value) = omega arith
 
 sized : (name full : Option Text) (s : Shape) (size : ℕ) → part_size (shape_part s) ≡ size
-    → property_size (record { name = name; fullname = full; shape = s }) ≡ 21 + given_size 8
-    (option_map text_size name) + given_size 12 (option_map text_size full) + size
+    → property_size (record { name = name; fullname = full; shape = s }) ≡ property_frame + given_size name_frame
+    (option_map text_size name) + given_size full_frame (option_map text_size full) + size
 sized name full s size is =
     let q : Property = record { name = name; fullname = full; shape = s } in
     omega (arith, is, property_length q, given_is (codes "name") name, given_is (codes "fullname") full)
@@ -84,12 +84,14 @@ module _ (p : Paging) (levels : ℕ) (below : (full : Option Text) (es : List (K
       let whole = sized (Some (key_text e.0)) name (shape_of p 0 (nested p levels name) e.1)
       (value_size p 0 (entries_size p levels size) e.1)
       (shape_is p 0 (nested p levels name) (entries_size p levels size) (below name) e.1) in
-      let count : 21 + (8 + text_size (key_text e.0)) + given_size 12 size + value_size p 0
+      let count : property_frame + (name_frame + text_size (key_text e.0)) + given_size full_frame size + value_size p 0
       (entries_size p levels size) e.1
-      ≡ 29 + text_size (key_text e.0) + given_size 12 size + value_size p 0 (entries_size p levels size) e.1 =
+      ≡ property_frame + name_frame + text_size (key_text e.0) + given_size full_frame size + value_size p 0
+      (entries_size p levels size) e.1 =
       omega arith in
       whole ∙ count
-      ∙ ap (λ (o : Option ℕ). 29 + text_size (key_text e.0) + given_size 12 o + value_size p 0
+      ∙ ap (λ (o : Option ℕ). property_frame + name_frame + text_size (key_text e.0) + given_size full_frame o +
+      value_size p 0
       (entries_size p levels o) e.1) (full_is full e.0)
 
   entries_are : (full : Option Text) (es : List (Key × Data))

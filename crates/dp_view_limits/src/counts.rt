@@ -16,6 +16,21 @@ use dp_state::Path;
 use dp_value::Key;
 use dp_view::sigil;
 
+/// `<property></property>`
+pub(crate) const PROPERTY: u64 = 21;
+
+/// ` name=""`
+pub(crate) const NAME: u64 = 8;
+
+/// ` fullname=""`
+pub(crate) const FULL_NAME: u64 = 12;
+
+/// ` type="string" size="" encoding="base64"`
+const TEXT: u64 = 40;
+
+/// ` type="array" children="1" numchildren="" page="" pagesize=""`
+const ARRAY: u64 = 61;
+
 /// How long a byte between tags or quotes is.
 fn byte_size(b: u8) -> u64
     ensures { result ≡ length (escaped b) }
@@ -168,7 +183,7 @@ pub(crate) fn after_front(most: u64, bytes: &[u8], left: u64) -> u64
     ensures { result ≡ left - spec.front_size most bytes.now }
 {
     let end = bytes.len().min(most as usize);
-    let rest = left.saturating_sub(40 + number_size(bytes.len() as u64));
+    let rest = left.saturating_sub(TEXT + number_size(bytes.len() as u64));
     after_base64(&bytes[..end], rest)
 }
 
@@ -176,7 +191,7 @@ pub(crate) fn after_front(most: u64, bytes: &[u8], left: u64) -> u64
 pub(crate) fn after_array(count: u64, page: u64, size: u64, left: u64) -> u64
     ensures { result ≡ left - spec.array_size count page size }
 {
-    left.saturating_sub(61)
+    left.saturating_sub(ARRAY)
         .saturating_sub(number_size(count))
         .saturating_sub(number_size(page))
         .saturating_sub(number_size(size))

@@ -9,8 +9,8 @@ ghost use Rattle.dp_view.specs.Properties as properties;
 ghost use Rattle.dp_view_limits.specs.inner.Sizes as spec;
 
 use crate::counts::{
-    after_array, after_front, after_full_name, after_index, after_int, after_key, after_own_name,
-    after_variable_name,
+    FULL_NAME, NAME, PROPERTY, after_array, after_front, after_full_name, after_index, after_int,
+    after_key, after_own_name, after_variable_name,
 };
 use dp_state::{Path, Vars};
 use dp_value::{Key, PhpArray, Value};
@@ -19,13 +19,13 @@ use dp_view::{Paging, page_end, page_start, slot_value};
 /// The length of the full name of an entry, where that of its array is known, and what is left behind its attribute.
 /// Where nothing is left the length is no matter.
 fn after_full(full: Option<u64>, key: &Key, left: u64) -> (Option<u64>, u64)
-    ensures left { result.1 ≡ left - spec.given_size 12 (spec.full_behind full key.now) }
+    ensures left { result.1 ≡ left - spec.given_size spec.full_frame (spec.full_behind full key.now) }
     ensures full { 0 < result.1 → result.0 ≡ spec.full_behind full key.now }
 {
     match full {
         None => (None, left),
         Some(n) => {
-            let before = left.saturating_sub(12).saturating_sub(n);
+            let before = left.saturating_sub(FULL_NAME).saturating_sub(n);
             let rest = after_index(key, before);
             (Some(n + (before - rest)), rest)
         }
@@ -45,7 +45,11 @@ fn after_entry(
     ensures { result ≡ left -
         spec.entry_size p.now (spec.entries_size p.now levels) full (key.now, data_of value.now) }
 {
-    let (full, rest) = after_full(full, key, after_key(key, left.saturating_sub(29)));
+    let (full, rest) = after_full(
+        full,
+        key,
+        after_key(key, left.saturating_sub(PROPERTY + NAME)),
+    );
     after_value(p, 0, levels, full, value, rest)
 }
 
@@ -142,7 +146,14 @@ fn after_value(
 pub(crate) fn after_shown(p: &Paging, value: &Value, left: u64) -> u64
     ensures { result ≡ left - spec.named_size p.now None None (data_of value.now) }
 {
-    after_value(p, p.page, p.depth, None, value, left.saturating_sub(21))
+    after_value(
+        p,
+        p.page,
+        p.depth,
+        None,
+        value,
+        left.saturating_sub(PROPERTY),
+    )
 }
 
 /// Behind the property of the value at a path in a context.
@@ -150,7 +161,7 @@ pub(crate) fn after_path(id: u32, path: &Path, p: &Paging, value: &Value, left: 
     ensures { result ≡ left - spec.named_size p.now (Some (spec.text_size (names.own_name id path.now)))
         (Some (spec.text_size (names.full_name id path.now))) (data_of value.now) }
 {
-    let before = after_own_name(id, path, left.saturating_sub(41));
+    let before = after_own_name(id, path, left.saturating_sub(PROPERTY + NAME + FULL_NAME));
     let rest = after_full_name(id, path, before);
     after_value(p, p.page, p.depth, Some(before - rest), value, rest)
 }
@@ -160,7 +171,7 @@ fn after_named(id: u32, name: &[u8], p: &Paging, value: &Value, left: u64) -> u6
     ensures { result ≡ left - spec.named_size p.now (Some (spec.text_size (names.variable_name id name.now)))
         (Some (spec.text_size (names.variable_name id name.now))) (data_of value.now) }
 {
-    let before = left.saturating_sub(41);
+    let before = left.saturating_sub(PROPERTY + NAME + FULL_NAME);
     let between = after_variable_name(id, name, before);
     let size = before - between;
     let rest = between.saturating_sub(size);
