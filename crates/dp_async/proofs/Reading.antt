@@ -7,7 +7,7 @@ use Rattle.atomic_table.specs.Seated.{TableId}
 use Rattle.dp_outside.specs.Causes.{Rose}
 use Rattle.dp_polled.specs.declared.piece.Piece.{Piece}
 use Rattle.dp_polled.specs.declared.piece.Piece.TheVariants as piece
-use Rattle.dp_polled.specs.Posts.{Known, after_put}
+use Rattle.dp_polled.specs.Posts.{Known}
 use Rattle.dp_polled.specs.Posted.{bytes_in as bytes_in_piece, bytes_of as bytes_in, is_over}
 use Rattle.dp_async.specs.Beside.{Flow, Gives}
 use Rattle.dp_async.specs.inner.Reading.{AllGoOn, HasPut, IsReader, ReadsOut, ReadsSoFar}
@@ -50,15 +50,6 @@ bytes_more (q ∷ ps) p =
 go_on_more : (ps : List Piece) (p : Piece) → AllGoOn ps → is_over (Some p) ≡ false → AllGoOn (ps ++ p ∷ [])
 go_on_more [] p all e = (e, tt)
 go_on_more (q ∷ ps) p all e = (all.0, go_on_more ps p all.1 e)
-
-pub has_put : (p unput : Piece) (before s now : Known) → unput ≡ p → s.put ≡ before.put → s.post ≡ before.post
-    → s.may_put ≡ before.may_put → now ≡ after_put unput s → HasPut p before now
-has_put p unput before s now is put post right e = record {
-  put = ap (λ (k : Known). k.put) e ∙ ap (λ (l : List Piece). l ++ unput ∷ []) put
-      ∙ ap (λ (x : Piece). before.put ++ x ∷ []) is;
-  post = ap (λ (k : Known). k.post) e ∙ post;
-  right = ap (λ (k : Known). k.may_put) e ∙ right;
-}
 
 pub reads_first : (f : Flow) (post : TableId) (seat : Known) → IsReader post seat → ReadsSoFar f f post seat
 reads_first f post seat r = record {

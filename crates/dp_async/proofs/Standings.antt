@@ -4,8 +4,8 @@ use Rattle.std.proofs.lemmas.Bool.Decides.{nat_tests}
 use Rattle.std.proofs.lemmas.List.Concat.{flat_map-append}
 use Rattle.std.proofs.KnownBytes.{Appends-nil, Appends-trans, Consumes-nil, Consumes-trans}
 use Rattle.std.specs.List.{flat_map}
-use Rattle.std.specs.Io.KnownBytes.{Appends, Consumes, append_known, prepend_known}
-use Rattle.std.specs.Prelude.{◌==◌, ◌||◌, is_none, option_map}
+use Rattle.std.specs.Io.KnownBytes.{Appends}
+use Rattle.std.specs.Prelude.{◌==◌, is_none}
 use Rattle.dp_outside.specs.Changes.{Change}
 use Rattle.dp_outside.specs.Streams.{AppendsFront}
 use Rattle.dp_command.specs.Lines.{line_of}
@@ -25,7 +25,7 @@ use Rattle.dp_async.specs.declared.answers.RunningAnswer.{RunningAnswer}
 use Rattle.dp_async.specs.declared.arrival.Arrival.{Arrival}
 use Rattle.dp_async.specs.Heard.{Done, Heard, HearsBreak, TellsStatus, GoesOn, Situation, bytes_of, nothing, on_its_way, stage_after, standing, with_look}
 use Rattle.dp_async.specs.Listens.{break_refusal, break_response, running_response}
-use Rattle.dp_async.specs.Served.{HasSaidOver, HeardUpTo, Input, IsLater, Reads, ends_empty}
+use Rattle.dp_async.specs.Served.{HeardUpTo, Input, IsLater, Reads, ends_empty}
 use Rattle.dp_async.specs.inner.Standing.{AreLater, IsCut, IsCutBy, IsRunningAnswer, Objects, Start, IsAt, Agrees, with_answer, with_input, with_link, with_sinks, with_text}
 
 -- ---- lists of arrivals
@@ -72,35 +72,6 @@ packet_more first packets text =
     ∙ packets_more first packets (text ∷ [])
 
 -- ---- what the objects tell
-
--- what a Polled has less than before, and has given more, was read of it
-consumed_of : (before now : Option (List ℕ)) (bytes : List ℕ) → before ≡ prepend_known bytes now
-    → Consumes before now bytes
-consumed_of None now bytes e = tt
-consumed_of (Some xs) None bytes e = absurd cc
-consumed_of (Some xs) (Some ys) bytes e = cc
-
-appended_of : (before now : Option (List ℕ)) (bytes : List ℕ) → now ≡ append_known before bytes
-    → Appends before now bytes
-appended_of None now bytes e = tt
-appended_of (Some xs) None bytes e = absurd cc
-appended_of (Some xs) (Some ys) bytes e = cc
-
-pub reads_of : (before now : Input) (bytes : List ℕ) → before.left ≡ prepend_known bytes now.left
-    → now.given ≡ append_known before.given bytes → Reads before now bytes
-reads_of before now bytes left given = record {
-  left = consumed_of before.left now.left bytes left;
-  given = appended_of before.given now.given bytes given;
-}
-
--- it says that it is over where a call says so
-pub said_over : (before now : Option Bool) (says : Bool) → now ≡ option_map (λ (b : Bool). b || says) before
-    → says ≡ true → HasSaidOver now
-said_over None None says e said = tt
-said_over None (Some now) says e said = absurd cc
-said_over (Some before) None says e said = absurd cc
-said_over (Some true) (Some now) says e said = cc
-said_over (Some false) (Some now) says e said = cc
 
 pub later_on : (a b c : Input) → IsLater a b → IsLater b c → IsLater a c
 later_on a b c first second = (omega (arith, first.0, second.0), second.1 ∙ first.1)

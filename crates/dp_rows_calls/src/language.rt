@@ -40,6 +40,7 @@ fn put_kind(text: &mut String, kind: &TokenKind) -> Result<(), Memory> {
 fn put_plain(text: &mut String, kind: &TokenKind) -> Result<(), Memory> {
     match kind {
         TokenKind::Number(number) => write!(text, "Number {number}")?,
+        TokenKind::Word(word) => write!(text, "{word:?}")?,
         other => write!(text, "{other:?}")?,
     }
     Ok(())
