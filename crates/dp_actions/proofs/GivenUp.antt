@@ -9,7 +9,7 @@ use Rattle.dp_tree.specs.declared.tree.Order.{Order}
 use Rattle.dp_value.specs.declared.value.Value.{Value}
 use Rattle.dp_value.specs.Value.{data_of}
 use Rattle.dp_actions.specs.Places.{assign_run, read_run, step_from, step_under, step_written, stepped}
-use Rattle.dp_actions.specs.Run.{Run, Done, and_then, given_up, taken}
+use Rattle.dp_actions.specs.Run.{Done, and_then, given_up, taken}
 use Rattle.dp_actions.specs.Values.{value_run}
 use Rattle.dp_actions.proofs.Runs.{and_then-assoc, and_then-same}
 

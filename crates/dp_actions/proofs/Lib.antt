@@ -3,6 +3,8 @@ pub mod AtOnceLaws
 pub mod Tails
 pub mod GivenUp
 pub mod Layers
+pub mod LinkedValues
+pub mod HeldIntegers
 pub mod StatementLayers
 pub mod AfterBodies
 pub mod Texts

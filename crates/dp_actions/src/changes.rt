@@ -61,7 +61,7 @@ pub fn step_place(
 }
 
 /// Applies `++` or `--` to a place. Its value is given up, in whatever order it was asked for.
-pub fn put_step(
+pub(crate) fn put_step(
     alloc: Global,
     op: UnaryOp,
     name: &Bytes,

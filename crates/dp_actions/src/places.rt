@@ -107,7 +107,7 @@ pub fn assign_place(
 }
 
 /// Writes a value, or one more entry.
-pub fn put_place(
+pub(crate) fn put_place(
     alloc: Global,
     name: &Bytes,
     indices: &[Value],

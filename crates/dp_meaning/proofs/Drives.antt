@@ -1,8 +1,7 @@
 -- A run in parts, driven.
-use Rattle.std.proofs.Common.{◌≡◌, ℕ, ◌+◌, ◌<◌, ◌≤◌, Bool, true, false, Result, Ok, Err, refl, sym, ap, ◌∙◌, subst}
+use Rattle.std.proofs.Common.{◌≡◌, ℕ, ◌+◌, Bool, true, false, Result, Ok, Err, refl, sym, ap, ◌∙◌, subst}
 use Rattle.std.specs.Prelude.{nat_lt, if◌then◌else◌}
 use Rattle.std.specs.Result.{IsErrAnd}
-use Rattle.std.proofs.lemmas.Bool.{le-ltb, lt-ltb}
 use Rattle.std.proofs.lemmas.Result.{err_from_is_err_and}
 use Rattle.dp_state.specs.declared.moments.Moment.{Moment}
 use Rattle.dp_state.specs.declared.moments.MomentKind.{MomentKind}
@@ -155,22 +154,5 @@ then_at {B} {rules} {kind} {line} {go} {s} {t} {u} {x} {done} e h =
 pub exits : {B : Type 0} {rules : Rules} {run : Run B} {s : State} {h : Halt} {x : Result B Halt}
     → IsErrAnd x (λ y. y ≡ h) → Evaluates rules run (Err h) s → Evaluates rules run x s
 exits {B} {rules} {run} {s} {h} {x} i e = let p = err_from_is_err_and x i in rw (p.1, p.2) e
-
--- a moment by itself, by the tests that are made at it
-module _ (rules : Rules) (kind : MomentKind) (line : ℕ) (s u : State) where
-  pub moment_passes_bound : rules.bound ≤ s.moments → u ≡ s
-      → Evaluates rules (moment_run kind line s) (Err (Finished Bound)) u
-  moment_passes_bound h k = record { meets = rw (le-ltb _ _ h, k) refl }
-
-  module _ (h : s.moments < rules.bound) (k : u ≡ written rules.writes (s.moments + 1) (arrived line s)) where
-    pub moment_stops : rules.halts (moment_of kind (arrived line s)) u ≡ true
-        → Evaluates rules (moment_run kind line s) (Err (Stopped (moment_of kind (arrived line s)))) u
-    moment_stops e =
-        record { meets = rw (lt-ltb _ _ h, ap (rules.halts (moment_of kind (arrived line s))) (sym k) ∙ e, k) refl }
-
-    pub moment_passes : rules.halts (moment_of kind (arrived line s)) u ≡ false
-        → Evaluates rules (moment_run kind line s) (Ok tt) u
-    moment_passes e =
-        record { meets = rw (lt-ltb _ _ h, ap (rules.halts (moment_of kind (arrived line s))) (sym k) ∙ e, k) refl }
 
 pub ruleset evaluating = (gives, ends, wants_memory, breaks_off, goes_on, stops_at, passes)

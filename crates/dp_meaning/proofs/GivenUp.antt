@@ -1,5 +1,5 @@
 -- Values of which only a test is left, or nothing.
-use Rattle.std.proofs.Common.{◌≡◌, suc, ◌-◌, Bool, true, List, [], ◌∷◌, length, slice_get, arith, Result, Ok, Err, refl, sym, ◌∙◌, subst}
+use Rattle.std.proofs.Common.{◌≡◌, ℕ, suc, ◌-◌, Bool, true, false, List, [], ◌∷◌, length, slice_get, arith, Result, Ok, Err, refl, sym, ◌∙◌, subst}
 use Rattle.std.specs.Option.{option_map_or}
 use Rattle.dp_state.specs.declared.state.State.{State}
 use Rattle.dp_tree.specs.declared.operators.UnaryOp.{UnaryOp}
@@ -8,11 +8,12 @@ use Rattle.dp_tree.specs.declared.tree.Order.{Order}
 use Rattle.dp_value.specs.declared.value.Value.{Value}
 use Rattle.dp_actions.specs.declared.halt.Halt.{Halt}
 use Rattle.dp_actions.specs.Expressions.{evaluation, evaluations}
-use Rattle.dp_actions.specs.Loops.{last_holds}
+use Rattle.dp_actions.specs.Loops.{bind_name, last_holds}
 use Rattle.dp_actions.specs.Places.{PlaceRun, assign_run, assigned_under, assignment, step, step_under}
 use Rattle.dp_actions.specs.Run.{Run, Done, and_then, given_up}
 use Rattle.dp_actions.specs.Setting.{Part, Setting}
 use Rattle.dp_actions.specs.Values.{holds}
+use Rattle.dp_actions.proofs.GivenUp.{assign-given_up}
 use Rattle.dp_actions.proofs.Runs.{and_then-assoc, and_then-same}
 use Rattle.dp_meaning.specs.inner.Drive.{Evaluates, Rules}
 use Rattle.dp_meaning.proofs.Drives.{gives, tested_off, tested_on}
@@ -105,6 +106,12 @@ assignment-given_up push place right setting s =
     (λ indices t. assigned_under push place.name right indices setting t) given_up
     ∙ and_then-same (place.indices setting s) _ _ (λ indices t. and_then-assoc (right setting t)
     (λ v u. assign_run place.name indices push v u) given_up)
+
+pub variable-given_up : (name : List ℕ) (right : Part Value) (setting : Setting) (s : State)
+    → and_then (assigned_under false name right [] setting s) given_up ≡ and_then (right setting s) (bind_name name)
+variable-given_up name right setting s =
+    and_then-assoc (right setting s) (λ v t. assign_run name [] false v t) given_up
+    ∙ and_then-same (right setting s) _ (bind_name name) (λ v t. assign-given_up name [] false v t)
 
 pub step-given_up : (op : UnaryOp) (order : Order) (place : PlaceRun) (setting : Setting) (s : State)
     → and_then (step op order place setting s) given_up

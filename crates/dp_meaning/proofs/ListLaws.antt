@@ -1,5 +1,7 @@
 -- Lists of parts, one element after another.
-use Rattle.std.proofs.Common.{◌≡◌, Bool, ℕ, zero, suc, ◌+◌, ◌<◌, List, [], ◌∷◌, ◌++◌, length, map, get_or, drop, drop-cons, add-one, Some, slice_get, arith, Result, Ok, Err, refl, sym, ap, ◌∙◌, subst, append_assoc, append-nil}
+use Rattle.std.proofs.Common.{◌≡◌, Bool, true, eqb-true, ℕ, zero, suc, ◌+◌, ◌<◌, List, [], ◌∷◌, ◌++◌, length, map, get_or, drop, drop-cons, add-one, Some, slice_get, arith, Result, Ok, Err, refl, sym, ap, ◌∙◌, subst, append_assoc, append-nil}
+use Rattle.std.specs.Prelude.{nat_eq}
+use Rattle.std.proofs.lemmas.List.{nil_from_length}
 use Rattle.dp_state.specs.Constants.{with_constant}
 use Rattle.dp_state.specs.declared.state.State.{State}
 use Rattle.dp_tree.specs.declared.tree.Definition.{Definition}
@@ -19,6 +21,12 @@ use Rattle.dp_actions.specs.Statements.{constants_run}
 use Rattle.dp_meaning.proofs.Drives.{gives, breaks_off, goes_on, joined_off, joined_on}
 use Rattle.dp_actions.proofs.MissingPlaces.{isset-on, isset-place}
 use Rattle.dp_actions.proofs.Runs.{and_then-assoc, and_then-Done}
+
+-- a slice that is empty has no items
+pub no_items : {X : Type 0} {items slice : List X} {empty : Bool} → slice ≡ items
+    → empty ≡ nat_eq (length slice) 0 → empty ≡ true → items ≡ []
+no_items {X} {items} {slice} same test empty-is =
+    sym same ∙ nil_from_length slice (eqb-true (length slice) 0 (sym test ∙ empty-is))
 
 -- the elements from one on
 pub front : {X : Type 0} (xs : List X) {i : ℕ} {x : X} → i < length xs → x ≡ get_or xs i x

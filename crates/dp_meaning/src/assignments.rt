@@ -5,22 +5,23 @@
 use crate::evaluator::Evaluator;
 use crate::outside::Outside;
 use dp_actions::{
-    Halt, found_place, present, read_place, then_assign, then_combine, then_missing,
-    then_put_place, then_put_step, then_step,
+    Halt, assign_integer, assign_variable, found_place, integer, present, read_place,
+    step_variable, then_assign, then_combine, then_missing, then_put_place, then_put_step,
+    then_step,
 };
 use dp_state::State;
 use dp_tree::{BinaryOp, Expression, Order, Place, UnaryOp};
 use dp_value::{Bytes, Value};
 
 impl<O: Outside> Evaluator<'_, O> {
-    ghost use Rattle.std.specs.Prelude.{map};
+    ghost use Rattle.std.specs.Prelude.{[], false, map};
     ghost use Rattle.dp_meaning.specs.inner.Drive.{Evaluates};
     ghost use Rattle.dp_meaning.specs.inner.Evaluation.{goes_by};
     ghost use Rattle.dp_actions.specs.Expressions.{evaluation, place_run};
     ghost use Rattle.dp_tree.specs.declared.tree.Order.{Order as AnyOrder};
     ghost use Rattle.dp_actions.specs.Run.{and_then, given_up};
-    ghost use Rattle.dp_actions.specs.Places.{assignment, coalescing, coalescing_under, compound, compound_under};
-    ghost use Rattle.dp_actions.specs.Places.{isset_run, missing_at, step};
+    ghost use Rattle.dp_actions.specs.Places.{assigned_under, assignment, coalescing, coalescing_under, compound};
+    ghost use Rattle.dp_actions.specs.Places.{compound_under, isset_run, missing_at, step};
 
     /// `place = right`, or `place[] = right`
     #[cycle(evaluate)]
@@ -43,6 +44,38 @@ impl<O: Outside> Evaluator<'_, O> {
             self.expression(right, state),
             state,
         )
+    }
+
+    /// `place = right`, whose value is given up
+    #[cycle(evaluate)]
+    pub(crate) fn put_assigned(
+        &self,
+        place: &Place,
+        right: &Expression,
+        state: &mut State,
+    ) -> Result<(), Halt>
+        ensures { Evaluates (O.rules self.now.outside.now) (and_then (assignment false (place_run place.now)
+            (evaluation right.now) (goes_by self.now) state.old) given_up) result state.new }
+    {
+        if place.indices.as_slice().is_empty() {
+            return self.put_variable(&place.name, right, state);
+        }
+        self.put(place, right, false, state)
+    }
+
+    /// `variable = right`, whose value is given up
+    #[cycle(evaluate)]
+    fn put_variable(&self, name: &Bytes, right: &Expression, state: &mut State) -> Result<(), Halt>
+        ensures { Evaluates (O.rules self.now.outside.now) (and_then (assigned_under false name.now
+            (evaluation right.now) [] (goes_by self.now) state.old) given_up) result state.new }
+    {
+        match integer(right, state) {
+            Some(n) => assign_integer(name, n, state),
+            None => {
+                let value = self.expression(right, state)?;
+                assign_variable(name, value, state)
+            }
+        }
     }
 
     /// `place = right`, or `place[] = right`, whose value is given up
@@ -171,6 +204,9 @@ impl<O: Outside> Evaluator<'_, O> {
         ensures { (order : AnyOrder) → Evaluates (O.rules self.now.outside.now) (and_then (step op order
             (place_run place.now) (goes_by self.now) state.old) given_up) result state.new }
     {
+        if place.indices.as_slice().is_empty() {
+            return step_variable(self.alloc, op, &place.name, state);
+        }
         then_put_step(
             self.alloc,
             op,

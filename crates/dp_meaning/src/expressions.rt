@@ -5,7 +5,8 @@
 use crate::evaluator::Evaluator;
 use crate::outside::Outside;
 use dp_actions::{
-    Halt, Reading, constant_value, text_value, then_holds, then_unary, variable_value,
+    Halt, Reading, constant_value, integer, text_value, then_holds, then_unary, truth,
+    variable_value,
 };
 use dp_state::State;
 use dp_tree::{Expression, Inclusion};
@@ -17,6 +18,7 @@ impl<O: Outside> Evaluator<'_, O> {
     ghost use Rattle.dp_actions.specs.Expressions.{evaluations, expression_run, included};
     ghost use Rattle.dp_actions.specs.Loops.{last_holds};
     ghost use Rattle.dp_actions.specs.Run.{Done, and_then, given_up};
+    ghost use Rattle.dp_actions.specs.Values.{holds as value_holds};
 
     /// The value of an expression.
     #[cycle(evaluate)]
@@ -80,6 +82,30 @@ impl<O: Outside> Evaluator<'_, O> {
         }
     }
 
+    /// Whether an expression holds: at once where integers are compared.
+    #[cycle(evaluate)]
+    pub(crate) fn holds(&self, e: &Expression, state: &mut State) -> Result<bool, Halt>
+        ensures { Evaluates (O.rules self.now.outside.now) (and_then ((expression_run e.now).value (goes_by self.now)
+            state.old) (λ v t. Done (value_holds v) t)) result state.new }
+    {
+        match truth(e, state) {
+            Some(holds) => Ok(holds),
+            None => then_holds(self.expression(e, state)),
+        }
+    }
+
+    /// The value of an expression: at once where it is of integers alone.
+    #[cycle(evaluate)]
+    pub(crate) fn value(&self, e: &Expression, state: &mut State) -> Result<Value, Halt>
+        ensures { Evaluates (O.rules self.now.outside.now) ((expression_run e.now).value (goes_by self.now) state.old)
+            result state.new }
+    {
+        match integer(e, state) {
+            Some(n) => Ok(Value::Int(n)),
+            None => self.expression(e, state),
+        }
+    }
+
     /// The values of expressions, one after another.
     #[cycle(evaluate)]
     pub(crate) fn values(&self, all: &[Expression], state: &mut State) -> Result<Items<Value>, Halt>
@@ -88,7 +114,7 @@ impl<O: Outside> Evaluator<'_, O> {
     {
         let mut values = Vec::new(self.alloc);
         for e in all {
-            values.push(self.expression(e, state)?)?;
+            values.push(self.value(e, state)?)?;
         }
         Ok(Items::of(values))
     }
@@ -101,7 +127,7 @@ impl<O: Outside> Evaluator<'_, O> {
     {
         let mut holds = true;
         for e in all {
-            holds = then_holds(self.expression(e, state))?;
+            holds = self.holds(e, state)?;
         }
         Ok(holds)
     }
@@ -125,7 +151,7 @@ impl<O: Outside> Evaluator<'_, O> {
             state.old) given_up) result state.new }
     {
         match e {
-            Expression::Assign(place, right) => self.put(place, right.as_ref(), false, state),
+            Expression::Assign(place, right) => self.put_assigned(place, right.as_ref(), state),
             Expression::Step(op, _, place) => self.put_step(*op, place, state),
             Expression::Push(place, right) => self.put(place, right.as_ref(), true, state),
             _ => {

@@ -24,7 +24,7 @@ mod write_answers;
 mod writes;
 
 pub use dp_actions::{Halt, Signal};
-pub use moment_writes::{evaluation, write_all};
+pub use moment_writes::{EVALUATION_LIMIT, evaluation, write_all};
 pub use moments::moment_of;
 pub use quiet::is_quiet;
 pub use runs::run_to;

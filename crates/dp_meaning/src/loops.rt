@@ -4,7 +4,7 @@
 
 use crate::evaluator::Evaluator;
 use crate::outside::Outside;
-use dp_actions::{Halt, LoopStep, Signal, after_body, bind_entry, then_holds};
+use dp_actions::{Halt, LoopStep, Signal, after_body, bind_entry};
 use dp_state::{Outcome, State};
 use dp_tree::{Binding, Expression, Statement};
 use dp_value::Value;
@@ -38,7 +38,7 @@ impl<O: Outside> Evaluator<'_, O> {
             if !on {
                 return Ok(Signal::Next);
             }
-            match after_body(self.statement(body, state)?) {
+            match after_body(self.loop_body(body, state)?) {
                 LoopStep::On => {}
                 LoopStep::Out(signal) => return Ok(signal),
             }
@@ -80,12 +80,12 @@ impl<O: Outside> Evaluator<'_, O> {
             state.new }
     {
         for _turn in 0..left {
-            match after_body(self.statement(body, state)?) {
+            match after_body(self.loop_body(body, state)?) {
                 LoopStep::On => {}
                 LoopStep::Out(signal) => return Ok(signal),
             }
             self.place(line, state)?;
-            let holds = then_holds(self.expression(test, state))?;
+            let holds = self.holds(test, state)?;
             if !holds {
                 return Ok(Signal::Next);
             }
@@ -132,7 +132,7 @@ impl<O: Outside> Evaluator<'_, O> {
         for at in from..array.len() {
             self.place(line, state)?;
             bind_entry(binding, array, at, state)?;
-            match after_body(self.statement(body, state)?) {
+            match after_body(self.loop_body(body, state)?) {
                 LoopStep::On => {}
                 LoopStep::Out(signal) => return Ok(signal),
             }

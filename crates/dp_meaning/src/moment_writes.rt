@@ -19,7 +19,7 @@ use std::alloc::Global;
 use std::mem;
 
 /// How many moments an evaluation may have.
-pub(crate) const EVALUATION_LIMIT: u64 = 10_000;
+pub const EVALUATION_LIMIT: u64 = 10_000;
 
 /// Makes those of the writes that have a number, in their order, in a state. A write that is refused changes nothing
 /// and is not reported. It fails only out of memory, and then nothing is said of the state.

@@ -5,8 +5,8 @@
 use crate::evaluator::Evaluator;
 use crate::outside::Outside;
 use dp_actions::{
-    Halt, Signal, bind_all, then_define, then_exit, then_holds, then_print, then_return,
-    then_signal, unset_place,
+    Halt, Signal, bind_all, then_define, then_exit, then_print, then_return, then_signal,
+    unset_place,
 };
 use dp_state::{Outcome, State};
 use dp_tree::{Arm, Boxed, Definition, Expression, Place, Statement, StatementKind};
@@ -40,6 +40,18 @@ impl<O: Outside> Evaluator<'_, O> {
         Ok(Signal::Next)
     }
 
+    /// The body of a loop.
+    #[cycle(evaluate)]
+    pub(crate) fn loop_body(&self, body: &Statement, state: &mut State) -> Result<Signal, Halt>
+        ensures { Evaluates (O.rules self.now.outside.now) (statement_run body.now (goes_by self.now) state.old)
+            result state.new }
+    {
+        match &body.kind {
+            StatementKind::Block(statements) => self.body(statements.as_slice(), state),
+            _ => self.statement(body, state),
+        }
+    }
+
     /// One statement.
     #[cycle(evaluate)]
     pub(crate) fn statement(&self, statement: &Statement, state: &mut State) -> Result<Signal, Halt>
@@ -50,7 +62,8 @@ impl<O: Outside> Evaluator<'_, O> {
         match &statement.kind {
             StatementKind::Expression(e) => {
                 self.place(line, state)?;
-                then_signal(self.effect(e, state), Signal::Next)
+                self.effect(e, state)?;
+                Ok(Signal::Next)
             }
             StatementKind::Echo(operands) => {
                 self.place(line, state)?;
@@ -154,7 +167,7 @@ impl<O: Outside> Evaluator<'_, O> {
     {
         for arm in arms {
             self.place(arm.line, state)?;
-            let holds = then_holds(self.expression(&arm.test, state))?;
+            let holds = self.holds(&arm.test, state)?;
             if holds {
                 return self.statement(&arm.body, state);
             }

@@ -1,5 +1,5 @@
 -- The text of a value, and texts joined. Source: the PHP manual, "Strings".
-use Rattle.std.specs.Prelude.{ℕ, true, false, cond, List, [], ◌∷◌, ◌++◌, length, codes, nat_le, Result, Ok, Err}
+use Rattle.std.specs.Prelude.{ℕ, true, false, cond, List, [], ◌++◌, length, codes, nat_le, Result, Ok, Err}
 use Rattle.std.specs.Fmt.{signed_decimal}
 use Rattle.dp_value.specs.declared.errors.ValueError.{ValueError}
 use Rattle.dp_value.specs.declared.errors.ValueError.TheVariants.{TooHeavy}

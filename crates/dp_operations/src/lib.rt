@@ -8,6 +8,7 @@ mod arrays;
 mod builtins;
 mod comparisons;
 mod indices;
+mod integers;
 mod operators;
 mod parts;
 mod scalars;
@@ -16,5 +17,6 @@ mod types;
 
 pub use builtins::builtin;
 pub use indices::{Found, copy, find, index, under};
+pub use integers::{comparison, integer_result};
 pub use operators::{binary, unary};
 pub use texts::text;

@@ -1,12 +1,16 @@
 -- The own variables of a frame, taken out and put back.
-use Rattle.std.proofs.Common.{◌≡◌, ◌≢◌, ℕ, zero, suc, ◌-◌, ◌<◌, ◌≤◌, ◌==◌, false, if◌then◌else◌, List, [], ◌∷◌, length, slice_get, slice_set, get_or, Option, Some, refl, sym, ap, ◌∙◌, arith}
+use Rattle.std.proofs.Common.{◌≡◌, ◌≢◌, ℕ, zero, suc, ◌-◌, ◌<◌, ◌≤◌, ◌==◌, ℤ, Bool, true, false, if◌then◌else◌, List, [], ◌∷◌, length, slice_get, slice_set, get_or, Option, Some, None, is_some, refl, sym, ap, ◌∙◌, arith}
 use Rattle.std.proofs.lemmas.Bool.Decides.{nat_tests}
 use Rattle.std.specs.Option.{option_map_or}
 use Rattle.dp_state.specs.declared.state.Frame.{Frame}
 use Rattle.dp_state.specs.declared.state.State.{State}
-use Rattle.dp_state.specs.Places.{with_own, with_vars}
-use Rattle.dp_state.specs.States.{own_variables}
-use Rattle.dp_state.specs.Variables.{Variables}
+use Rattle.dp_state.specs.declared.vars.Slot.TheVariants.{Held}
+use Rattle.dp_state.specs.inner.Parts.{vars_in, with_replaced, with_sum}
+use Rattle.dp_state.specs.Places.{with_own, with_variables, with_vars}
+use Rattle.dp_state.specs.States.{own_variables, owner_at, variables_at}
+use Rattle.dp_state.specs.Variables.{Variables, slot_of, value_held, with_slot}
+use Rattle.dp_value.specs.declared.value.Value.{Value}
+use Rattle.dp_value.specs.declared.value.Value.TheVariants.{Int}
 
 -- ---- frames
 pub length-with_vars : (at : ℕ) (vs : Variables) (fs : List Frame) → length (with_vars at vs fs) ≡ length fs
@@ -85,10 +89,62 @@ frames-with_own zero vs s = refl
 frames-with_own (suc at) vs s =
     ap (λ (t : State). length t.frames) (above at vs s) ∙ length-with_vars (suc at) vs s.frames
 
--- the own variables of a frame above the lowest do not depend on the global ones
+-- the own variables of a frame above the lowest are those that stand in it
+own-vars : (at : ℕ) (s : State) → at ≢ 0 → at ≤ length s.frames - 1 → own_variables s at ≡ vars_in s.frames at
+own-vars zero s apart within = absurd (apart refl)
+own-vars (suc at) s apart within =
+    let found = frame_at s.frames (suc at) (omega arith) in
+    own-frame at s found.0 found.1
+    ∙ sym (ap (λ (o : Option Frame). let none : Variables = [] in option_map_or (λ f. f.vars) o none) found.1)
+
+-- they do not depend on the global ones
 pub own-apart : (at : ℕ) (s : State) (globals : Variables) → at ≢ 0 → at ≤ length s.frames - 1
     → own_variables (record s { globals = globals }) at ≡ own_variables s at
-own-apart zero s globals apart within = absurd (apart refl)
-own-apart (suc at) s globals apart within =
-    let found = frame_at s.frames (suc at) (omega arith) in
-    own-frame at (record s { globals = globals }) found.0 found.1 ∙ sym (own-frame at s found.0 found.1)
+own-apart at s globals apart within =
+    own-vars at (record s { globals = globals }) apart within ∙ sym (own-vars at s apart within)
+
+-- ---- the variables that the top frame uses, changed where they stand
+module _ (at : ℕ) (s : State) (is : at ≡ owner_at s 0) where
+  pub top-globals : at ≡ 0 → s.globals ≡ variables_at s 0
+  top-globals lowest = ap (own_variables s) (sym lowest ∙ is)
+
+  pub top-vars : at ≢ 0 → at ≤ length s.frames - 1 → vars_in s.frames at ≡ variables_at s 0
+  top-vars apart within = sym (own-vars at s apart within) ∙ ap (own_variables s) is
+
+  module _ (change : Variables → Variables) where
+    pub changed-globals : (new : Variables) → at ≡ 0 → new ≡ change s.globals
+        → record s { globals = new } ≡ with_variables 0 (change (variables_at s 0)) s
+    changed-globals new lowest made =
+        ap (λ (vs : Variables). record s { globals = vs }) made
+        ∙ ap (λ (n : ℕ). with_own n (change (own_variables s n)) s) (sym lowest ∙ is)
+
+    pub changed-frames : (new : List Frame) → at ≢ 0 → at ≤ length s.frames - 1
+        → new ≡ with_vars at (change (vars_in s.frames at)) s.frames
+        → record s { frames = new } ≡ with_variables 0 (change (variables_at s 0)) s
+    changed-frames new apart within made =
+        let vs = change (vars_in s.frames at) in
+        ap (λ (fs : List Frame). record s { frames = fs }) made
+        ∙ sym (ap (λ b. if b then record s { globals = vs } else record s { frames = with_vars at vs s.frames })
+        (apart-test at apart))
+        ∙ ap (λ (ws : Variables). with_own at (change ws) s) (sym (own-vars at s apart within))
+        ∙ ap (λ (n : ℕ). with_own n (change (own_variables s n)) s) is
+
+  module _ (within : at ≤ length s.frames - 1) where
+    unchanged : with_variables 0 (variables_at s 0) s ≡ s
+    unchanged = with_own-same (owner_at s 0) s (omega arith)
+
+    if-by : (b : Bool) (vs : Variables) → with_variables 0 (if b then vs else variables_at s 0) s
+        ≡ (if b then with_variables 0 vs s else s)
+    if-by true vs = refl
+    if-by false vs = unchanged
+
+    pub top-replaced : (name : List ℕ) (v : Value) → with_variables 0 (with_replaced name v (variables_at s 0)) s
+        ≡ (if is_some (value_held (slot_of (variables_at s 0) name))
+        then with_variables 0 (with_slot (variables_at s 0) name (Held v)) s else s)
+    top-replaced name v =
+        if-by (is_some (value_held (slot_of (variables_at s 0) name))) (with_slot (variables_at s 0) name (Held v))
+
+    pub top-summed : (name : List ℕ) (sum : Option ℤ) → with_variables 0 (with_sum name sum (variables_at s 0)) s
+        ≡ option_map_or (λ n. with_variables 0 (with_slot (variables_at s 0) name (Held (Int n))) s) sum s
+    top-summed name None = unchanged
+    top-summed name (Some n) = refl

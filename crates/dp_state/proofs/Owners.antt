@@ -6,10 +6,11 @@ use Rattle.std.proofs.lemmas.List.{length-take-le, take-append-le}
 use Rattle.std.proofs.lemmas.Option.{same_Some, slice_get_past, slice_get_read}
 use Rattle.dp_state.specs.declared.state.Frame.{Frame}
 use Rattle.dp_state.specs.inner.Owners.{owners_below, owners_of}
+use Rattle.dp_state.specs.inner.Parts.{vars_in}
 use Rattle.dp_state.specs.Places.{with_vars}
 use Rattle.dp_state.specs.States.{owner, shares_at, with_line}
 use Rattle.dp_state.specs.Variables.{Variables}
-use Rattle.dp_state.proofs.Homes.{length-with_vars}
+use Rattle.dp_state.proofs.Homes.{length-with_vars, set-vars}
 
 -- ---- one position
 
@@ -246,10 +247,35 @@ shares-with_vars zero vs (f ∷ fs) (suc k) = refl
 shares-with_vars (suc at) vs (f ∷ fs) zero = refl
 shares-with_vars (suc at) vs (f ∷ fs) (suc k) = shares-with_vars at vs fs k
 
-pub kept-vars : (at : ℕ) (vs : Variables) (fs : List Frame) (os : List ℕ) → os ≡ owners_of fs
+kept-vars : (at : ℕ) (vs : Variables) (fs : List Frame) (os : List ℕ) → os ≡ owners_of fs
     → os ≡ owners_of (with_vars at vs fs)
 kept-vars at vs fs os kept =
     kept ∙ sym (owners_of-alike (with_vars at vs fs) fs (length-with_vars at vs fs) (shares-with_vars at vs fs))
+
+-- the frame f at a position gets other variables where it stands
+module _ (at : ℕ) (fs gs : List Frame) (f : Frame) (seen : fs ≡ gs) (is : f ≡ get_or fs at f)
+    (within : at < length gs) where
+  inside : at < length fs
+  inside = omega (arith, within, ap length seen)
+
+  pub frame-there : slice_get gs at ≡ Some f
+  frame-there =
+      ap (λ (l : List Frame). slice_get l at) (sym seen) ∙ slice_get_read fs (length fs) at f refl inside is
+
+  pub vars-there : f.vars ≡ vars_in gs at
+  vars-there =
+      ap (λ (o : Option Frame). let none : Variables = [] in option_map_or (λ g. g.vars) o none) (sym frame-there)
+
+  module _ (vs : Variables) where
+    pub vars-kept : (os : List ℕ) → os ≡ owners_of fs → os ≡ owners_of (slice_set fs at (record f { vars = vs }))
+    vars-kept os kept = kept-vars at vs fs os kept ∙ ap owners_of (sym (set-vars at fs f vs is inside))
+
+    pub vars-changed : (change : Variables → Variables) → vs ≡ change f.vars
+        → slice_set fs at (record f { vars = vs }) ≡ with_vars at (change (vars_in gs at)) gs
+    vars-changed change made =
+        set-vars at fs f vs is inside
+        ∙ ap (λ (ws : Variables). with_vars at ws fs) (made ∙ ap change vars-there)
+        ∙ ap (with_vars at (change (vars_in gs at))) seen
 
 -- the last frame gets the line
 pub set_last : (line n : ℕ) (f : Frame) (fs : List Frame) → n + 1 ≡ length fs → f ≡ get_or fs n f

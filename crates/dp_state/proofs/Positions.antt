@@ -1,7 +1,8 @@
 -- The position of a name among variables.
-use Rattle.std.proofs.Common.{◌≡◌, ℕ, zero, suc, ◌<◌, Bool, true, false, cond, nat_lt, List, [], ◌∷◌, get_or, length, position, slice_get, take, Option, Some, None, IfSome, sym, ap, ◌∙◌, arith, lt-ltb}
+use Rattle.std.proofs.Common.{◌≡◌, ℕ, zero, suc, ◌+◌, ◌<◌, ℤ, Bool, true, false, cond, nat_lt, List, [], ◌∷◌, get_or, length, position, slice_get, drop, take, Option, Some, None, IfSome, sym, ap, ◌∙◌, arith, lt-ltb}
 use Rattle.std.specs.List.{position_or_len}
 use Rattle.std.specs.Map.{keys_of, set_value, values_of}
+use Rattle.std.specs.Option.{option_map_or}
 use Rattle.std.specs.Str.{bytes_eq}
 use Rattle.std.proofs.lemmas.List.{get_or-take, length-take}
 use Rattle.std.proofs.lemmas.List.Quantifiers.{position-Some}
@@ -9,10 +10,13 @@ use Rattle.std.proofs.lemmas.List.Sums.{position_or_len_is}
 use Rattle.indexmap.specs.IndexMap.{set_value_at}
 use Rattle.indexmap.proofs.MapLemmas.{Found-position, Missing-position}
 use Rattle.dp_value.specs.declared.value.Value.{Value}
+use Rattle.dp_value.specs.declared.value.Value.TheVariants.{Int}
 use Rattle.dp_state.specs.declared.vars.Slot.{Slot}
-use Rattle.dp_state.specs.Variables.{Variables, slot_of}
-use Rattle.dp_state.specs.inner.Parts.{with_held}
-use Rattle.dp_state.proofs.Slots.{exchanged, Exchanged}
+use Rattle.dp_state.specs.declared.vars.Slot.TheVariants.{Held}
+use Rattle.dp_state.specs.Variables.{Variables, slot_of, with_slot}
+use Rattle.dp_state.specs.inner.Parts.{with_held, with_replaced, with_sum}
+use Rattle.dp_state.proofs.Fronts.{set-drop, value-behind}
+use Rattle.dp_state.proofs.Slots.{replaced, set-inserts, summed}
 
 -- the first among the first of a list is the first of it
 module _ {X : Type 0} (p : X → Bool) (xs : List X) (k : ℕ) (d : X) where
@@ -49,9 +53,26 @@ module _ (name : List ℕ) (es : Variables) where
     pub there : slice_get (values_of es) i ≡ slot_of es name
     there = sym (Found-position (bytes_eq name) es i (sym at)).value
 
-    pub exchanged-at : (s : Slot) (value : Value) (n : Variables) (w : Slot) → Some s ≡ slice_get (values_of es) i
-        → w ≡ with_held value s → n ≡ set_value_at es i w → Exchanged name es value n
-    exchanged-at s value n w found new is =
-        exchanged name es s value n w (found ∙ there) new
-        (let first = position-Some (bytes_eq name) (keys_of es) i [] (sym at) in
-        is ∙ set-at (bytes_eq name) es i w first.0 first.1 first.2)
+    -- its row, where so many in front of it are gone
+    module _ (g : ℕ) (rows : Variables) (seen : drop g rows ≡ es) where
+      pub row-slot : slice_get (values_of rows) (g + i) ≡ slot_of es name
+      row-slot = value-behind g i rows ∙ ap (λ (xs : Variables). slice_get (values_of xs) i) seen ∙ there
+
+      module _ (s w : Slot) (found : Some s ≡ slice_get (values_of rows) (g + i)) where
+        row-set : drop g (set_value_at rows (g + i) w) ≡ with_slot es name w
+        row-set =
+            let first = position-Some (bytes_eq name) (keys_of es) i [] (sym at) in
+            set-drop g i rows w
+            ∙ ap (λ (xs : Variables). set_value_at xs i w) seen
+            ∙ set-at (bytes_eq name) es i w first.0 first.1 first.2
+            ∙ set-inserts name w es s (sym (found ∙ row-slot))
+
+        pub row-replaced : (value : Value) → w ≡ with_held value s
+            → drop g (set_value_at rows (g + i) w) ≡ with_replaced name value es
+        row-replaced value new =
+            replaced name es (drop g (set_value_at rows (g + i) w)) s w value (found ∙ row-slot) row-set new
+
+        pub row-summed : (sum : Option ℤ) → w ≡ option_map_or (λ n. Held (Int n)) sum s
+            → drop g (set_value_at rows (g + i) w) ≡ with_sum name sum es
+        row-summed sum new =
+            summed name es (drop g (set_value_at rows (g + i) w)) s w sum (found ∙ row-slot) row-set new

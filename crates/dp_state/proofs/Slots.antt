@@ -1,18 +1,18 @@
 -- What is under a name once it got a slot.
-use Rattle.std.proofs.Common.{◌≡◌, Bool, true, false, if◌then◌else◌, List, [], ◌∷◌, ℕ, Option, Some, None, is_some, unwrap_or, Result, Ok, refl, sym, ap, ◌∙◌}
+use Rattle.std.proofs.Common.{◌≡◌, Bool, true, false, if◌then◌else◌, List, [], ◌∷◌, ℕ, ℤ, Option, Some, None, is_some, unwrap_or, Result, Ok, refl, sym, ap, ◌∙◌}
 use Rattle.std.specs.Map.{set_value}
+use Rattle.std.specs.Option.{option_map_or}
 use Rattle.std.specs.Str.{bytes_eq}
 use Rattle.std.proofs.lemmas.Option.{same_Some}
 use Rattle.dp_state.specs.declared.moments.FatalKind.{FatalKind}
 use Rattle.dp_state.specs.declared.vars.Slot.{Slot}
 use Rattle.dp_state.specs.declared.vars.Slot.TheVariants.{Held, Bound}
-use Rattle.dp_state.specs.inner.Parts.{data_in, then_variables}
+use Rattle.dp_state.specs.inner.Parts.{data_in, then_variables, with_held, with_replaced, with_sum}
 use Rattle.dp_state.specs.Variables.{Variables, slot_of, value_held, with_slot, without}
-use Rattle.dp_state.specs.inner.Parts.{with_held}
 use Rattle.dp_value.specs.declared.errors.WriteError.{WriteError}
 use Rattle.dp_value.specs.declared.key.Key.TheVariants.{Text}
 use Rattle.dp_value.specs.declared.value.Value.{Value}
-use Rattle.dp_value.specs.declared.value.Value.TheVariants.{Null}
+use Rattle.dp_value.specs.declared.value.Value.TheVariants.{Int, Null}
 use Rattle.dp_value.specs.Data.{Data, null}
 use Rattle.dp_value.specs.Value.{data_of}
 use Rattle.dp_value.proofs.KeyLemmas.{key_eq_equivalence}
@@ -83,20 +83,25 @@ module _ (name : List ℕ) where
   -- ---- a value in the place of another
   -- what a name has once a value was put in the place of the one that it holds
   abbrev pub Exchanged : Variables → Value → Variables → Type 0
-  Exchanged es value n = n ≡ (if is_some (value_held (slot_of es name)) then with_slot es name (Held value) else es)
+  Exchanged es value n = n ≡ with_replaced name value es
 
-  pub exchanged : (es : Variables) (s : Slot) (value : Value) (n : Variables) (w : Slot) → Some s ≡ slot_of es name
-      → w ≡ with_held value s →
-      n ≡ set_value (bytes_eq name) es w → Exchanged es value n
-  exchanged es (Held old) value n w there new is =
-      let test : true ≡ is_some (value_held (slot_of es name)) = ap (λ o. is_some (value_held o)) there in
-      is ∙ ap (λ (x : Slot). set_value (bytes_eq name) es x) new ∙ set-inserts (Held value) es (Held old) (sym there)
-      ∙ ap (λ b. if b then with_slot es name (Held value) else es) test
-  exchanged es Bound value n w there new is =
-      let test : false ≡ is_some (value_held (slot_of es name)) = ap (λ o. is_some (value_held o)) there in
-      is ∙ ap (λ (x : Slot). set_value (bytes_eq name) es x) new ∙ set-inserts Bound es Bound (sym there)
-      ∙ with_slot-same Bound es (sym there)
-      ∙ ap (λ b. if b then with_slot es name (Held value) else es) test
+  pub replaced-missing : (es : Variables) (value : Value) → None ≡ slot_of es name → es ≡ with_replaced name value es
+  replaced-missing es value missing =
+      ap (λ (o : Option Slot). if is_some (value_held o) then with_slot es name (Held value) else es) missing
+
+  pub replaced : (es n : Variables) (s w : Slot) (value : Value) → Some s ≡ slot_of es name → n ≡ with_slot es name w
+      → w ≡ with_held value s → n ≡ with_replaced name value es
+  replaced es n (Held old) w value there set new =
+      set ∙ ap (with_slot es name) new
+      ∙ ap (λ (o : Option Slot). if is_some (value_held o) then with_slot es name (Held value) else es) there
+  replaced es n Bound w value there set new =
+      set ∙ ap (with_slot es name) new ∙ with_slot-same Bound es (sym there)
+      ∙ ap (λ (o : Option Slot). if is_some (value_held o) then with_slot es name (Held value) else es) there
+
+  pub summed : (es n : Variables) (s w : Slot) (sum : Option ℤ) → Some s ≡ slot_of es name → n ≡ with_slot es name w
+      → w ≡ option_map_or (λ i. Held (Int i)) sum s → n ≡ with_sum name sum es
+  summed es n s w None there set new = set ∙ ap (with_slot es name) new ∙ with_slot-same s es (sym there)
+  summed es n s w (Some i) there set new = set ∙ ap (with_slot es name) new
 
   -- a value is taken out, changed to another, and put back
   module _ (es : Variables) (v : Value) (there : Some v ≡ value_held (slot_of es name)) where

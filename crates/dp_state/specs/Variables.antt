@@ -1,8 +1,10 @@
 -- Variables in the order of their first assignment.
-use Rattle.std.specs.Prelude.{ℕ, List, Option, Some, None}
+use Rattle.std.specs.Prelude.{ℕ, ℤ, ◌+ℤ◌, cond, List, Option, Some, None}
 use Rattle.std.specs.Map.{lookup, remove_entry}
 use Rattle.std.specs.Str.{bytes_eq}
 use Rattle.dp_value.specs.declared.value.Value.{Value}
+use Rattle.dp_value.specs.declared.value.Value.TheVariants.{Null, Bool, Int, Text, Array}
+use Rattle.dp_value.specs.IntText.{is_in_64_bits}
 use Rattle.dp_state.specs.declared.vars.Slot.{Slot}
 use Rattle.dp_state.specs.declared.vars.Slot.TheVariants.{Held, Bound}
 use Rattle.indexmap.specs.IndexMap.{insert_entry}
@@ -28,6 +30,16 @@ abbrev pub value_held : Option Slot → Option Value
 value_held None = None
 value_held (Some Bound) = None
 value_held (Some (Held value)) = Some value
+
+-- the sum of the integer that a slot holds and another one, where it fits 64 bits
+abbrev pub sum_in : ℤ → Option Slot → Option ℤ
+sum_in by None = None
+sum_in by (Some Bound) = None
+sum_in by (Some (Held Null)) = None
+sum_in by (Some (Held (Bool b))) = None
+sum_in by (Some (Held (Int n))) = cond (is_in_64_bits (n +ℤ by)) (Some (n +ℤ by)) None
+sum_in by (Some (Held (Text bytes))) = None
+sum_in by (Some (Held (Array table))) = None
 
 -- the value of a name that has this slot, where the global variable of its name has that value
 abbrev pub value_through : Option Slot → Option Value → Option Value

@@ -1,13 +1,16 @@
 //! Frames, and whose variables each of them uses.
 
 ghost use Rattle.std.specs.Prelude.{◌≡◌, ◌++◌, ◌∷◌, ◌<◌, ◌≤◌, ◌-◌, [], Some, length, option_map, slice_get, take};
-ghost use Rattle.std.specs.Prelude.{IfOk, OnErr, OnOk};
+ghost use Rattle.std.specs.Prelude.{IfOk, OnErr, OnOk, is_some};
+ghost use Rattle.dp_state.specs.Variables.{slot_of, sum_in, value_held};
+ghost use Rattle.dp_state.specs.inner.Parts.{vars_in, with_replaced, with_sum};
+ghost use Rattle.dp_value.specs.declared.value.Value.TheVariants as variant;
 ghost use Rattle.dp_state.specs.Places.{with_vars};
 ghost use Rattle.dp_state.specs.States.{owner as owner_of, with_line};
 
 use crate::state::{Frame, Frames};
 use crate::vars::Vars;
-use dp_value::Memory;
+use dp_value::{Bytes, Memory};
 use std::alloc::Global;
 use std::mem;
 
@@ -97,7 +100,27 @@ impl Frames {
         ensures taken { option_map (λ frame. frame.vars) (slice_get self.old at) ≡ Some result }
         ensures given { self.new ≡ with_vars at vars self.old }
     {
-        exchange_vars(&mut self.frames, at, vars)
+        mem::replace(&mut self.frames[at].vars, vars)
+    }
+
+    /// Puts an integer in the place of the value that a name holds among the own variables of the frame at this
+    /// position, and says whether it holds one. Takes no memory.
+    pub(crate) fn put_integer(&mut self, at: usize, name: &Bytes, n: i64) -> bool
+        requires { at < length self.old }
+        ensures held { result ≡ is_some (value_held (slot_of (vars_in self.old at) name.now)) }
+        ensures put { self.new ≡ with_vars at (with_replaced name.now (variant.Int n) (vars_in self.old at)) self.old }
+    {
+        self.frames[at].vars.put_integer(name, n)
+    }
+
+    /// Adds to the integer that a name holds among the own variables of the frame at this position, and gives the sum.
+    /// Takes no memory.
+    pub(crate) fn add(&mut self, at: usize, name: &Bytes, by: i64) -> Option<i64>
+        requires { at < length self.old }
+        ensures sum { result ≡ sum_in by (slot_of (vars_in self.old at) name.now) }
+        ensures added { self.new ≡ with_vars at (with_sum name.now result (vars_in self.old at)) self.old }
+    {
+        self.frames[at].vars.add(name, by)
     }
 
     /// Equal frames in the same order.
@@ -120,15 +143,6 @@ fn set_top_line(frames: &mut Vec<Frame>, line: u32)
         return;
     }
     frames[count - 1].line = line;
-}
-
-/// Gives the frame at this position its own variables, and gives those out that it had.
-fn exchange_vars(frames: &mut Vec<Frame>, at: usize, vars: Vars) -> Vars
-    requires { at < length frames.old.items }
-    ensures taken { option_map (λ frame. frame.vars) (slice_get frames.old.items at) ≡ Some result }
-    ensures given { frames.new.items ≡ with_vars at vars frames.old.items }
-{
-    mem::replace(&mut frames[at].vars, vars)
 }
 
 /// Equal frames in the same order.

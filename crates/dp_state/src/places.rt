@@ -1,12 +1,14 @@
 //! Writes of variables and of their entries, and `unset` and `global`.
 
 ghost use Rattle.std.specs.Prelude.{◌≡◌, ◌⊎◌, ◌++◌, ◌≤◌, ◌-◌, false, [], Ok, Err, length, IfOk, IsOk, IfErr, OnOk};
-ghost use Rattle.std.specs.Prelude.{OnErr};
-ghost use Rattle.dp_state.specs.States.{own_variables, IsCause, IsFatal, IsSure};
+ghost use Rattle.std.specs.Prelude.{OnErr, is_some, if◌then◌else◌};
+ghost use Rattle.std.specs.Option.{option_map_or};
+ghost use Rattle.dp_state.specs.States.{own_variables, variables_at, IsCause, IsFatal, IsSure};
 ghost use Rattle.dp_state.specs.declared.state.Fault.TheVariants as fault;
 ghost use Rattle.dp_value.specs.declared.value.Value.TheVariants as variant;
-ghost use Rattle.dp_state.specs.Variables.{slot_of};
-ghost use Rattle.dp_state.specs.Places.{assigned, is_bound as is_mark, unset, with_global, with_own};
+ghost use Rattle.dp_state.specs.Variables.{slot_of, sum_in, value_held, with_slot};
+ghost use Rattle.dp_state.specs.declared.vars.Slot.TheVariants as variable;
+ghost use Rattle.dp_state.specs.Places.{assigned, is_bound as is_mark, unset, with_global, with_own, with_variables};
 ghost use Rattle.dp_state.specs.Places.{without_variable};
 ghost use Rattle.dp_state.specs.inner.Parts.{home as home_of};
 
@@ -48,6 +50,35 @@ impl State {
         let done = assign_in(&mut vars, name, keys, push, value);
         let _ = self.exchange_own(at, vars);
         done
+    }
+
+    /// Puts an integer in the place of the value that a variable of the top frame has, and says whether it has one. A
+    /// name that is bound has none of its own: then nothing changes. Takes no memory.
+    pub fn put_integer(&mut self, name: &Bytes, n: i64) -> bool
+        ensures held { result ≡ is_some (value_held (slot_of (variables_at self.old 0) name.now)) }
+        ensures put { self.new ≡ (if is_some (value_held (slot_of (variables_at self.old 0) name.now)) then
+            with_variables 0 (with_slot (variables_at self.old 0) name.now (variable.Held (variant.Int n))) self.old
+            else self.old) }
+    {
+        let at = self.owner_at(0);
+        if at == 0 {
+            return self.globals.put_integer(name, n);
+        }
+        self.frames.put_integer(at, name, n)
+    }
+
+    /// Adds to the integer that a variable of the top frame has, and gives the sum. Where it has none of its own, or
+    /// the sum does not fit, there is none, and nothing changes. Takes no memory.
+    pub fn add(&mut self, name: &Bytes, by: i64) -> Option<i64>
+        ensures sum { result ≡ sum_in by (slot_of (variables_at self.old 0) name.now) }
+        ensures added { self.new ≡ option_map_or (λ sum. with_variables 0 (with_slot (variables_at self.old 0) name.now
+            (variable.Held (variant.Int sum))) self.old) result self.old }
+    {
+        let at = self.owner_at(0);
+        if at == 0 {
+            return self.globals.add(name, by);
+        }
+        self.frames.add(at, name, by)
     }
 
     /// Gives a variable of the top frame, or its entry under `keys`, a text with a piece behind it, and

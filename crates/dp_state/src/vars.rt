@@ -49,8 +49,11 @@ impl Model for Vars {
 
 impl Slot {
     ghost use Rattle.std.specs.Prelude.{◌≡◌, if◌then◌else◌, is_some, None, Some};
-    ghost use Rattle.dp_state.specs.Variables.{value_held};
+    ghost use Rattle.std.specs.Option.{option_map_or};
+    ghost use Rattle.dp_state.specs.Variables.{sum_in, value_held};
+    ghost use Rattle.dp_state.specs.declared.vars.Slot.TheVariants as variable;
     ghost use Rattle.dp_state.specs.inner.Parts.{with_held};
+    ghost use Rattle.dp_value.specs.declared.value.Value.TheVariants as any_value;
 
     /// Puts a value in the place of the one that is held, and gives that one out.
     fn exchange(&mut self, value: Value) -> Option<Value>
@@ -61,6 +64,36 @@ impl Slot {
             Slot::Held(held) => Some(mem::replace(held, value)),
             Slot::Bound => None,
         }
+    }
+
+    /// Puts an integer in the place of the value that is held, and says whether one is.
+    fn put_integer(&mut self, n: i64) -> bool
+        ensures held { result ≡ is_some (value_held (Some self.old)) }
+        ensures exchanged { self.new ≡ with_held (any_value.Int n) self.old }
+    {
+        let Slot::Held(held) = self else {
+            return false;
+        };
+        *held = Value::Int(n);
+        true
+    }
+
+    /// Adds to the integer that is held, and gives the sum.
+    fn add(&mut self, by: i64) -> Option<i64>
+        ensures sum { result ≡ sum_in by (Some self.old) }
+        ensures added { self.new ≡ option_map_or (λ sum. variable.Held (any_value.Int sum)) result self.old }
+    {
+        let Slot::Held(held) = self else {
+            return None;
+        };
+        let Value::Int(n) = *held else {
+            return None;
+        };
+        let Some(sum) = n.checked_add(by) else {
+            return None;
+        };
+        *held = Value::Int(sum);
+        Some(sum)
     }
 
     /// Puts a value in the place of the one that is held. Gives it back where none is.
@@ -84,8 +117,9 @@ impl Vars {
     ghost use Rattle.std.specs.List.{IsDistinct};
     ghost use Rattle.std.specs.Map.{keys_of, values_of};
     ghost use Rattle.std.specs.Str.{bytes_eq};
-    ghost use Rattle.dp_state.specs.Variables.{slot_of, value_held, with_slot, without};
-    ghost use Rattle.dp_state.specs.declared.vars.Slot.TheVariants as variable;
+    ghost use Rattle.dp_state.specs.Variables.{slot_of, sum_in, value_held, with_slot, without};
+    ghost use Rattle.dp_state.specs.inner.Parts.{with_replaced, with_sum};
+    ghost use Rattle.dp_value.specs.declared.value.Value.TheVariants as any_value;
 
     /// No variables. Takes no memory.
     pub fn new(alloc: Global) -> Vars
@@ -173,8 +207,7 @@ impl Vars {
     /// nothing changes. Takes no memory.
     pub(crate) fn exchange(&mut self, name: &Bytes, value: Value) -> Option<Value>
         ensures value { result ≡ value_held (slot_of self.old name.now) }
-        ensures exchanged { self.new ≡ (if is_some (value_held (slot_of self.old name.now))
-            then with_slot self.old name.now (variable.Held value) else self.old) }
+        ensures exchanged { self.new ≡ with_replaced name.now value self.old }
     {
         let Some(at) = self.place(name) else {
             return None;
@@ -191,8 +224,7 @@ impl Vars {
     /// value is given back. Takes no memory.
     pub(crate) fn put(&mut self, name: &Bytes, value: Value) -> Option<Value>
         ensures back { result ≡ (if is_some (value_held (slot_of self.old name.now)) then None else Some value) }
-        ensures exchanged { self.new ≡ (if is_some (value_held (slot_of self.old name.now))
-            then with_slot self.old name.now (variable.Held value) else self.old) }
+        ensures exchanged { self.new ≡ with_replaced name.now value self.old }
     {
         let Some(at) = self.place(name) else {
             return Some(value);
@@ -203,6 +235,38 @@ impl Vars {
             return Some(value);
         };
         slot.put(value)
+    }
+
+    /// Puts an integer in the place of the value that a name holds, and says whether it holds one. Takes no memory.
+    pub(crate) fn put_integer(&mut self, name: &Bytes, n: i64) -> bool
+        ensures held { result ≡ is_some (value_held (slot_of self.old name.now)) }
+        ensures exchanged { self.new ≡ with_replaced name.now (any_value.Int n) self.old }
+    {
+        let Some(at) = self.place(name) else {
+            return false;
+        };
+        // The number of rows is what says that a row fits.
+        let _rows = self.slots.len();
+        let Some(slot) = self.slots.get_index_mut(self.gone + at) else {
+            return false;
+        };
+        slot.put_integer(n)
+    }
+
+    /// Adds to the integer that a name holds, and gives the sum. Where there is none, nothing changes. Takes no memory.
+    pub(crate) fn add(&mut self, name: &Bytes, by: i64) -> Option<i64>
+        ensures sum { result ≡ sum_in by (slot_of self.old name.now) }
+        ensures added { self.new ≡ with_sum name.now result self.old }
+    {
+        let Some(at) = self.place(name) else {
+            return None;
+        };
+        // The number of rows is what says that a row fits.
+        let _rows = self.slots.len();
+        let Some(slot) = self.slots.get_index_mut(self.gone + at) else {
+            return None;
+        };
+        slot.add(by)
     }
 
     /// Takes a name out. Takes no memory.
@@ -309,14 +373,8 @@ fn position_of(names: &[Bytes], name: &Bytes) -> Option<usize>
 fn is_same(name: &[u8], other: &[u8]) -> bool
     ensures { result ≡ bytes_eq name.now other.now }
 {
-    let [first, rest @ ..] = name else {
-        return other.is_empty();
-    };
-    let [second, more @ ..] = other else {
-        return false;
-    };
-    if *first != *second || rest.len() != more.len() {
+    if name.len() != other.len() || name.first() != other.first() {
         return false;
     }
-    rest.is_empty() || rest == more
+    name.len() <= 1 || name == other
 }

@@ -17,16 +17,16 @@ use Rattle.dp_tree.specs.declared.tree.StatementKind.TheOpen.{Statement-F, State
 -- ---- expressions, by how deep they nest
 
 abbrev pub expression_size : Expression → ℕ
-expression_size e = 4 * size-Expression e
+expression_size e = 5 * size-Expression e
 
 abbrev pub expressions_size : List Expression → ℕ
-expressions_size es = 4 * most size-Expression es + 2
+expressions_size es = 5 * most size-Expression es + 2
 
 abbrev pub optional_size : Option Expression → ℕ
 optional_size o = option_map_or expression_size o 0
 
 abbrev pub definitions_size : List Definition → ℕ
-definitions_size ds = 4 * most (λ (d : Definition). size-Expression d.value) ds
+definitions_size ds = 5 * most (λ (d : Definition). size-Expression d.value) ds
 
 -- ---- statements, by all that is in them
 
@@ -56,7 +56,7 @@ kind_layer (StatementKind-F.Break loops) = 1
 kind_layer (StatementKind-F.Continue loop) = 1
 kind_layer (StatementKind-F.Return value) = optional_size value + 4
 kind_layer (StatementKind-F.Global names) = 1
-kind_layer (StatementKind-F.Unset places) = 4 * most size-Place places + 4
+kind_layer (StatementKind-F.Unset places) = 5 * most size-Place places + 4
 kind_layer (StatementKind-F.Constants all) = definitions_size all + 4
 kind_layer (StatementKind-F.Exit value) = optional_size value + 4
 

@@ -6,6 +6,7 @@ use Rattle.dp_state.specs.Variables.{Variables, slot_of, value_held, with_slot}
 use Rattle.dp_state.specs.declared.moments.FatalKind.{FatalKind}
 use Rattle.dp_state.specs.declared.state.Fault.TheVariants as fault
 use Rattle.dp_state.specs.declared.state.Fault.{Fault}
+use Rattle.dp_state.specs.declared.state.Frame.{Frame}
 use Rattle.dp_state.specs.declared.state.State.{State}
 use Rattle.dp_state.specs.declared.vars.Slot.TheVariants.{Held, Bound}
 use Rattle.dp_state.specs.declared.vars.Slot.{Slot}
@@ -14,10 +15,10 @@ use Rattle.dp_value.specs.Entry.{write_result, removed}
 use Rattle.dp_value.specs.Value.{data_of, value_of}
 use Rattle.dp_value.specs.declared.errors.WriteError.{WriteError}
 use Rattle.dp_value.specs.declared.key.Key.{Key}
-use Rattle.dp_value.specs.declared.value.Value.TheVariants.{Null}
+use Rattle.dp_value.specs.declared.value.Value.TheVariants.{Int, Null}
 use Rattle.dp_value.specs.declared.value.Value.{Value}
 use Rattle.std.specs.Option.{option_map_or}
-use Rattle.std.specs.Prelude.{◌≡◌, ⊤, ℕ, Bool, if◌then◌else◌, List, Option, slice_get, unwrap_or, Result, Ok, Err}
+use Rattle.std.specs.Prelude.{◌≡◌, ⊤, ℕ, ℤ, Bool, if◌then◌else◌, List, [], Option, is_some, slice_get, unwrap_or, Result, Ok, Err}
 
 -- with the variable at a position of others
 abbrev pub with_pair : Variables → ℕ → Variables → Variables
@@ -28,6 +29,21 @@ with_pair from at to =
 abbrev pub with_held : Value → Slot → Slot
 with_held value (Held old) = Held value
 with_held value Bound = Bound
+
+-- variables with a value in the place of the one that a name holds
+abbrev pub with_replaced : List ℕ → Value → Variables → Variables
+with_replaced name value variables =
+    if is_some (value_held (slot_of variables name)) then with_slot variables name (Held value)
+    else variables
+
+-- variables with a sum, where there is one, for a name
+abbrev pub with_sum : List ℕ → Option ℤ → Variables → Variables
+with_sum name sum variables =
+    option_map_or (λ n. with_slot variables name (Held (Int n))) sum variables
+
+-- the own variables of the frame at this position
+abbrev pub vars_in : List Frame → ℕ → Variables
+vars_in frames at = option_map_or (λ frame. frame.vars) (slice_get frames at) []
 
 -- the position of the frame among whose own variables the variable of this name at a level stands
 abbrev pub home : State → ℕ → List ℕ → ℕ

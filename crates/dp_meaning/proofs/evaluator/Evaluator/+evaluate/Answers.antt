@@ -11,16 +11,16 @@ use Rattle.dp_actions.specs.Expressions.{evaluations}
 use Rattle.dp_meaning.specs.inner.Sizes.{arm_size, body_size, definitions_size, expressions_size, statement_size}
 use Rattle.dp_actions.specs.declared.signal.Signal.TheVariants.{Next}
 use Rattle.dp_actions.specs.Effects.{print_run}
-use Rattle.dp_actions.specs.Run.{Done, given_up}
+use Rattle.dp_actions.specs.Run.{Done, and_then, given_up}
 use Rattle.dp_actions.specs.Statements.{for_turns, statement_run}
 use Rattle.dp_actions.specs.Values.{holds}
 use Rattle.dp_meaning.proofs.CallLaws.{next-done, suc-call, suc-include, zero-call, zero-include}
 use Rattle.dp_meaning.proofs.ByEvaluator.{by-arm, by-bundle, by-call, by-do, by-file, by-for, by-turns}
-use Rattle.dp_meaning.proofs.Drives.{at_once, breaks_off, ends, exits, gives, goes_on, joined_off, joined_on, passes, stops_at, tested_off, tested_on, tested_then, then_at, then_on}
+use Rattle.dp_meaning.proofs.Drives.{at_once, breaks_off, ends, exits, gives, goes_on, joined_off, joined_on, passes, stops_at, tested_off, tested_on, then_at, then_on}
 use Rattle.dp_actions.proofs.Layers.{found-plain, run-Array, run-Assign, run-Bool, run-Call, run-Chain, run-Coalesce, run-CoalesceAssign, run-Compound, run-Conditional, run-Constant, run-Include, run-Index, run-Isset, run-item-None, run-item-Some, run-link, run-Null, run-Number, run-place, run-Push, run-Step, run-Text, run-Unary, run-Variable}
 use Rattle.dp_actions.proofs.StatementLayers.{kind-Block, kind-Break, kind-Constants, kind-Continue, kind-DoWhile, kind-Echo, kind-Empty, kind-Exit, kind-Expression, kind-For, kind-Foreach, kind-Global, kind-If, kind-Return, kind-Unset, kind-While, run-arm, run-statement}
-use Rattle.dp_meaning.proofs.ListLaws.{constant_off, constant_on, front, front-at, place_off, place_on, values-all, values-break, values-first, values-more}
-use Rattle.dp_meaning.proofs.GivenUp.{assignment-given_up, step-given_up, test-all, test-break, test-first, test-more, without-all, without-break, without-more}
+use Rattle.dp_meaning.proofs.ListLaws.{constant_off, constant_on, front, front-at, no_items, place_off, place_on, values-all, values-break, values-first, values-more}
+use Rattle.dp_meaning.proofs.GivenUp.{assignment-given_up, step-given_up, test-all, test-break, test-first, test-more, variable-given_up, without-all, without-break, without-more}
 use Rattle.dp_meaning.proofs.LoopLaws.{bind-breaks, body-breaks, body-out, do-body-breaks, do-body-out, do-end, do-goes-on, do-stops, do-test-breaks, each-body-breaks, each-goes-on, each-out, each-stops, next-breaks, test-breaks, turn-goes-on, turn-stops, turns-end}
 use Rattle.dp_meaning.proofs.SizeLaws.{arms_size, frame-callee, frame-file, frame_less, places_size, size-arm, size-Block, size-Constants, size-definition, size-DoWhile, size-Echo, size-Exit, size-Expression, size-For, size-Foreach, size-If, size-in, size-Return, size-some, size-Unset, size-While, sized}
 use Rattle.dp_actions.proofs.Tails.{kept-none, kept-some, present-none, present-some}
@@ -103,16 +103,26 @@ found-returns-in-Index g t c = rw (c.in-Index.is, run-Index) (rw (c.as_ref.ensur
 pub found-returns-in_default : goal.found-returns-in_default
 found-returns-in_default g t c = rw (found-plain c.args.e.now c.in_default.not-Index) c.expression.ensures
 
+pub holds-returns-in-Some : goal.holds-returns-in-Some
+holds-returns-in-Some g t c = let seen = rw c.in-Some.is at c.truth.ensures in at_once (seen _)
+
+pub holds-returns-in-None : goal.holds-returns-in-None
+holds-returns-in-None g t c = then_on c.expression.ensures (c.then_holds.ensures _)
+
+pub value-returns-in-Some : goal.value-returns-in-Some
+value-returns-in-Some g t c = let fits : SFits w64 c.in-Some.n = search rules in let seen = rw c.in-Some.is at
+    c.integer.ensures in rw (to_z-of_z w64 c.in-Some.n fits) (at_once (seen _))
+
 pub values-loop-e-init : goal.values-loop-e-init
 values-loop-e-init g t c = λ x u e. values-first _ _ _ _ x u (rw c.new-values.ensures.items at e)
 
-pub values-returns-in_err-expression : goal.values-returns-in_err-expression
-values-returns-in_err-expression g t c = exits c.from_residual.ensures.1 (c.loop-e.invariant _ _ (rw (front _
-    c.loop-e-test.true c.e-item.is) (values-break _ _ _ _ _ _ _ _ c.in_err-expression.ensures)))
+pub values-returns-in_err-value : goal.values-returns-in_err-value
+values-returns-in_err-value g t c = exits c.from_residual.ensures.1 (c.loop-e.invariant _ _ (rw (front _
+    c.loop-e-test.true c.e-item.is) (values-break _ _ _ _ _ _ _ _ c.in_err-value.ensures)))
 
 pub values-loop-e-preserved : goal.values-loop-e-preserved
 values-loop-e-preserved g t c = λ x u e. c.loop-e.invariant x u (rw (front _ c.loop-e-test.true c.e-item.is)
-    (values-more _ _ _ _ _ _ _ _ x u c.in_ok-expression.ensures (rw c.in_ok-push.ensures.items at e)))
+    (values-more _ _ _ _ _ _ _ _ x u c.in_ok-value.ensures (rw c.in_ok-push.ensures.items at e)))
 
 pub values-returns : goal.values-returns
 values-returns g t c = c.loop-e.invariant _ _ (rw (at_end _ c.loop-e-test.false, c.of.ensures) (values-all _ (goes_by
@@ -122,14 +132,12 @@ pub test-loop-e-init : goal.test-loop-e-init
 test-loop-e-init g t c = λ x u e. test-first _ _ _ _ x u e
 
 pub test-returns-in_err-holds : goal.test-returns-in_err-holds
-test-returns-in_err-holds g t c = exits c.from_residual.ensures.1
-    (c.loop-e.invariant _ _ (rw (front _ c.loop-e-test.true
-    c.e-item.is) (test-break _ _ _ _ _ _ (then_on c.expression.ensures (c.in_err-holds.ensures _)))))
+test-returns-in_err-holds g t c = exits c.from_residual.ensures.1 (c.loop-e.invariant _ _ (rw (front _
+    c.loop-e-test.true c.e-item.is) (test-break _ _ _ _ _ _ c.in_err-holds.ensures)))
 
 pub test-loop-e-preserved : goal.test-loop-e-preserved
-test-loop-e-preserved g t c = λ x u e. c.loop-e.invariant x u
-    (rw (front _ c.loop-e-test.true c.e-item.is) (test-more _ _
-    _ _ _ _ (then_on c.expression.ensures (c.in_ok-holds.ensures _)) e))
+test-loop-e-preserved g t c = λ x u e. c.loop-e.invariant x u (rw (front _ c.loop-e-test.true c.e-item.is) (test-more _
+    _ _ _ _ _ c.in_ok-holds.ensures e))
 
 pub test-returns : goal.test-returns
 test-returns g t c = c.loop-e.invariant _ _ (rw (at_end _ c.loop-e-test.false) (test-all _ (goes_by c.args.self.now) _
@@ -148,25 +156,19 @@ effects-returns g t c = c.loop-e.invariant _ _ (rw (at_end _ c.loop-e-test.false
     c.args.self.now) _))
 
 pub effect-returns-in-Assign : goal.effect-returns-in-Assign
-effect-returns-in-Assign g t c = rw (c.in-Assign.is, run-Assign) (rw c.as_ref.ensures at c.put.ensures)
+effect-returns-in-Assign g t c = rw (c.in-Assign.is, run-Assign) (rw c.as_ref.ensures at c.put_assigned.ensures)
 
 pub effect-returns-in-Step : goal.effect-returns-in-Step
 effect-returns-in-Step g t c = rw (c.in-Step.is, run-Step) (c.put_step.ensures _)
 
 pub effect-returns-in-Push : goal.effect-returns-in-Push
-effect-returns-in-Push g t c = rw (c.in-Push.is, run-Push) (rw c.as_ref-in-Push.ensures at c.put-in-Push.ensures)
+effect-returns-in-Push g t c = rw (c.in-Push.is, run-Push) (rw c.as_ref-in-Push.ensures at c.put.ensures)
 
 pub effect-returns-in_ok-value-in_default : goal.effect-returns-in_ok-value-in_default
 effect-returns-in_ok-value-in_default g t c = goes_on given_up c.in_ok-value-in_default.ensures gives
 
-pub inclusion-returns-in_err-value : goal.inclusion-returns-in_err-value
-inclusion-returns-in_err-value g t c = exits c.from_residual.ensures.1 (breaks_off _ c.in_err-value.ensures)
-
 pub inclusion-returns : goal.inclusion-returns
 inclusion-returns g t c = goes_on _ c.in_ok-value.ensures c.include-answer.ensures
-
-pub index-returns-in_err-value : goal.index-returns-in_err-value
-index-returns-in_err-value g t c = exits c.from_residual.ensures.1 (breaks_off _ c.in_err-value.ensures)
 
 pub index-returns : goal.index-returns
 index-returns g t c = goes_on _ c.in_ok-value.ensures c.under.ensures
@@ -216,9 +218,6 @@ keyed-returns-in-Ok g t c = goes_on _ (rw c.in-Ok.is at c.expression.ensures) (t
 pub keyed-returns-in-Err : goal.keyed-returns-in-Err
 keyed-returns-in-Err g t c = breaks_off _ (rw c.in-Err.is at c.expression.ensures)
 
-pub chain-returns-in_err-value : goal.chain-returns-in_err-value
-chain-returns-in_err-value g t c = exits c.from_residual.ensures.1 (breaks_off _ c.in_err-value.ensures)
-
 pub chain-returns : goal.chain-returns
 chain-returns g t c = goes_on _ c.in_ok-value.ensures c.links.ensures
 
@@ -250,9 +249,6 @@ link-returns-else-not-holds g t c = rw (run-link, c.in-And.is, sym c.holds-in-An
 pub link-returns-in-Of : goal.link-returns-in-Of
 link-returns-in-Of g t c = rw (run-link, c.in-Of.is) (then_on c.expression-in-Of.ensures c.then_binary.ensures)
 
-pub coalesce-returns-in_err-value : goal.coalesce-returns-in_err-value
-coalesce-returns-in_err-value g t c = exits c.from_residual.ensures.1 (breaks_off _ c.in_err-value.ensures)
-
 pub coalesce-returns-in-Some : goal.coalesce-returns-in-Some
 coalesce-returns-in-Some g t c = let k = present-some _ _ (sym c.present.ensures ∙ c.in-Some.is) in goes_on _
     c.in_ok-value.ensures (rw (k.0, k.1) gives)
@@ -260,9 +256,6 @@ coalesce-returns-in-Some g t c = let k = present-some _ _ (sym c.present.ensures
 pub coalesce-returns-in-None : goal.coalesce-returns-in-None
 coalesce-returns-in-None g t c = goes_on _ c.in_ok-value.ensures (rw (present-none _ (sym c.present.ensures ∙
     c.in-None.is)) c.expression.ensures)
-
-pub conditional-returns-in_err-value : goal.conditional-returns-in_err-value
-conditional-returns-in_err-value g t c = exits c.from_residual.ensures.1 (breaks_off _ c.in_err-value.ensures)
 
 pub conditional-returns-in-Some : goal.conditional-returns-in-Some
 conditional-returns-in-Some g t c = let k = kept-some c.in_ok-value.value _ (sym c.kept.ensures ∙ c.in-Some.is) in
@@ -286,17 +279,35 @@ pub assign-returns : goal.assign-returns
 assign-returns g t c = rw run-place (goes_on _ (rw c.as_slice.ensures at c.in_ok-indices.ensures) (then_on
     c.expression.ensures (rw c.as_slice-2.ensures at c.then_assign.ensures)))
 
+pub put_assigned-returns-then-is_empty : goal.put_assigned-returns-then-is_empty
+unfolding and_then
+put_assigned-returns-then-is_empty g t c = let none = no_items c.as_slice.ensures c.is_empty.ensures c.if-is_empty.true
+    in rw (run-place, none) c.put_variable.ensures
+
+pub put_variable-returns-in-Some : goal.put_variable-returns-in-Some
+put_variable-returns-in-Some g t c = let fits : SFits w64 c.in-Some.n = search rules in let seen = rw c.in-Some.is at
+    c.integer.ensures in rw variable-given_up (goes_on _ (at_once (seen _)) (at_once (rw (to_z-of_z w64 c.in-Some.n
+    fits) at c.assign_integer.ensures)))
+
+pub put_variable-returns-in_ok-value-in-None : goal.put_variable-returns-in_ok-value-in-None
+put_variable-returns-in_ok-value-in-None g t c = rw variable-given_up (goes_on _ c.in_ok-value-in-None.ensures (at_once
+    c.assign_variable.ensures))
+
 pub put-returns-in_err-indices : goal.put-returns-in_err-indices
-put-returns-in_err-indices g t c = exits c.from_residual.ensures.1
-    (rw (assignment-given_up, run-place) (breaks_off _ (rw
-    c.as_slice.ensures at c.in_err-indices.ensures)))
+put-returns-in_err-indices g t c = exits c.from_residual.ensures.1 (rw (assignment-given_up, run-place) (breaks_off _
+    (rw c.as_slice.ensures at c.in_err-indices.ensures)))
 
 pub put-returns : goal.put-returns
 put-returns g t c = rw (assignment-given_up, run-place) (goes_on _ (rw c.as_slice.ensures at c.in_ok-indices.ensures)
     (then_on c.expression.ensures (rw c.as_slice-2.ensures at c.then_put_place.ensures)))
 
+pub put_step-returns-then-is_empty : goal.put_step-returns-then-is_empty
+unfolding and_then
+put_step-returns-then-is_empty g t c = let none = no_items c.as_slice.ensures c.is_empty.ensures c.if-is_empty.true in λ
+    order. rw (run-place, none) (at_once (c.step_variable.ensures order))
+
 pub put_step-returns : goal.put_step-returns
-put_step-returns g t c = λ order. rw (step-given_up, run-place) (then_on (rw c.as_slice.ensures at c.values.ensures)
+put_step-returns g t c = λ order. rw (step-given_up, run-place) (then_on (rw c.as_slice-2.ensures at c.values.ensures)
     (c.then_put_step.ensures order))
 
 pub compound-returns-in_err-indices : goal.compound-returns-in_err-indices
@@ -383,12 +394,9 @@ pub named-returns-in-Some-BuiltIn : goal.named-returns-in-Some-BuiltIn
 named-returns-in-Some-BuiltIn g t c = rw (sym c.look_up.ensures ∙ ap (option_map callee_of) c.in-Some-BuiltIn.is) (rw
     c.in-Some-BuiltIn.field-0-is c.call_builtin.ensures)
 
-pub call_builtin-returns-in_err-values : goal.call_builtin-returns-in_err-values
-call_builtin-returns-in_err-values g t c = exits c.from_residual.ensures.1 (breaks_off _ c.in_err-values.ensures)
-
 pub call_builtin-returns : goal.call_builtin-returns
-call_builtin-returns g t c =
-    goes_on _ c.in_ok-values.ensures (at_once (rw c.as_slice.ensures at c.native_call.ensures.run))
+call_builtin-returns g t c = goes_on _ c.in_ok-values.ensures (at_once (rw c.as_slice.ensures at
+    c.native_call.ensures.run))
 
 pub named-returns-in_err-values-in-Some-Declared : goal.named-returns-in_err-values-in-Some-Declared
 named-returns-in_err-values-in-Some-Declared g t c = exits c.from_residual.ensures.1 (rw (sym c.look_up.ensures ∙ ap
@@ -487,14 +495,23 @@ body-returns-in-Return g t c = c.loop-statement.invariant _ _ (rw (front _ c.loo
 pub body-returns : goal.body-returns
 body-returns g t c = c.loop-statement.invariant _ _ (rw (at_end _ c.loop-statement-test.false) gives)
 
+pub loop_body-returns-in-Block : goal.loop_body-returns-in-Block
+loop_body-returns-in-Block g t c = rw (run-statement, c.in-Block.is, kind-Block) (rw c.as_slice.ensures at
+    c.body.ensures)
+
 pub statement-returns-in_err-place-in-Expression : goal.statement-returns-in_err-place-in-Expression
 statement-returns-in_err-place-in-Expression g t c = exits c.from_residual.ensures.1 (rw
     (run-statement, c.in-Expression.is, kind-Expression) (stops_at c.in_err-place-in-Expression.ensures))
 
-pub statement-returns-in_ok-place-in-Expression : goal.statement-returns-in_ok-place-in-Expression
-statement-returns-in_ok-place-in-Expression g t c = rw (run-statement, c.in-Expression.is, kind-Expression) (passes
-    c.in_ok-place-in-Expression.ensures (tested_then (λ _. tt) _ (λ _ u. Done Next u) c.effect.ensures
-    (c.then_signal.ensures _)))
+pub statement-returns-in_err-effect-in-Expression : goal.statement-returns-in_err-effect-in-Expression
+statement-returns-in_err-effect-in-Expression g t c = exits c.from_residual-in_err-effect-in-Expression.ensures.1 (rw
+    (run-statement, c.in-Expression.is, kind-Expression) (passes c.in_ok-place-in-Expression.ensures (tested_off (λ _.
+    tt) _ (λ _ u. Done Next u) c.in_err-effect-in-Expression.ensures)))
+
+pub statement-returns-in_ok-effect-in-Expression : goal.statement-returns-in_ok-effect-in-Expression
+statement-returns-in_ok-effect-in-Expression g t c = rw (run-statement, c.in-Expression.is, kind-Expression) (passes
+    c.in_ok-place-in-Expression.ensures (tested_on (λ _. tt) _ (λ _ u. Done Next u) c.in_ok-effect-in-Expression.ensures
+    gives))
 
 pub statement-returns-in_err-place-in-Echo : goal.statement-returns-in_err-place-in-Echo
 statement-returns-in_err-place-in-Echo g t c = exits c.from_residual-in_err-place-in-Echo.ensures.1 (rw
@@ -530,9 +547,12 @@ statement-returns-in_err-place-in-For g t c = exits c.from_residual-in_err-place
 
 pub statement-returns-in_ok-place-in-For : goal.statement-returns-in_ok-place-in-For
 statement-returns-in_ok-place-in-For g t c = rw (run-statement, c.in-For.is, kind-For) (passes
-    c.in_ok-place-in-For.ensures (rw
-    (c.as_slice-in-For.ensures, c.as_slice-in-For-2.ensures, c.as_slice-in-For-3.ensures, c.as_ref-in-For.ensures) at
-    c.for_turns.ensures))
+    c.in_ok-place-in-For.ensures (rw (
+      c.as_slice-in-For.ensures,
+      c.as_slice-in-For-2.ensures,
+      c.as_slice-in-For-3.ensures,
+      c.as_ref-in-For.ensures,
+    ) at c.for_turns.ensures))
 
 pub statement-returns-in_err-place-in-Foreach : goal.statement-returns-in_err-place-in-Foreach
 statement-returns-in_err-place-in-Foreach g t c = exits c.from_residual-in_err-place-in-Foreach.ensures.1 (rw
@@ -544,7 +564,7 @@ statement-returns-in_ok-place-in-Foreach g t c = rw (run-statement, c.in-Foreach
 
 pub statement-returns-in-Break : goal.statement-returns-in-Break
 statement-returns-in-Break g t c = rw (run-statement, c.in-Break.is, kind-Break) (then_at c.place-in-Break.ensures
-    (c.then_signal-in-Break.ensures _))
+    (c.then_signal.ensures _))
 
 pub statement-returns-in-Continue : goal.statement-returns-in-Continue
 statement-returns-in-Continue g t c = rw (run-statement, c.in-Continue.is, kind-Continue) (then_at
@@ -602,9 +622,6 @@ for_turns-returns g t c = tested_on (λ _. tt) _ (λ _. for_turns c.args.line c.
     (statement_run c.args.body.now) (goes_by c.args.self.now) []) c.in_ok-effects.ensures (by-for c.args.self.now
     c.args.line c.args.body.now c.effects.new.state c.args.tests.now c.args.after.now c.turns.ensures)
 
-pub foreach-returns-in_err-subject : goal.foreach-returns-in_err-subject
-foreach-returns-in_err-subject g t c = exits c.from_residual.ensures.1 (breaks_off _ c.in_err-subject.ensures)
-
 pub echo-returns-in_err-then_print : goal.echo-returns-in_err-then_print
 echo-returns-in_err-then_print g t c = exits c.from_residual.ensures.1 (c.loop-operand.invariant _ _ (rw (front _
     c.loop-operand-test.true c.operand-item.is) (joined_off _ print_run _ (then_on c.expression.ensures
@@ -636,23 +653,20 @@ arms-returns-in_err-place g t c = exits c.from_residual.ensures.1 (c.loop-arm.in
 
 pub arms-returns-in_err-holds : goal.arms-returns-in_err-holds
 arms-returns-in_err-holds g t c = exits c.from_residual-in_err-holds.ensures.1 (c.loop-arm.invariant _ _ (rw (front _
-    c.loop-arm-test.true c.arm-item.is) (rw run-arm (passes c.in_ok-place.ensures
-    (tested_off holds _ (by-arm c.args.self.now
-    c.arm-item.result (drop (c.loop-arm.arm-index + 1) c.args.arms.now) c.args.otherwise.now) (then_on
-    c.expression.ensures (c.in_err-holds.ensures _)))))))
+    c.loop-arm-test.true c.arm-item.is) (rw run-arm (passes c.in_ok-place.ensures (tested_off holds _ (by-arm
+    c.args.self.now c.arm-item.result (drop (c.loop-arm.arm-index + 1) c.args.arms.now) c.args.otherwise.now)
+    c.in_err-holds.ensures)))))
 
 pub arms-returns-then-holds : goal.arms-returns-then-holds
 arms-returns-then-holds g t c = c.loop-arm.invariant _ _ (rw (front _ c.loop-arm-test.true c.arm-item.is) (rw run-arm
-    (passes c.in_ok-place.ensures (tested_on holds _ (by-arm c.args.self.now c.arm-item.result
-    (drop (c.loop-arm.arm-index +
-    1) c.args.arms.now) c.args.otherwise.now) (then_on c.expression.ensures (c.in_ok-holds.ensures _)) (rw
-    c.if-holds.true c.statement.ensures)))))
+    (passes c.in_ok-place.ensures (tested_on holds _ (by-arm c.args.self.now c.arm-item.result (drop
+    (c.loop-arm.arm-index + 1) c.args.arms.now) c.args.otherwise.now) c.in_ok-holds.ensures (rw c.if-holds.true
+    c.statement.ensures)))))
 
 pub arms-loop-arm-preserved : goal.arms-loop-arm-preserved
 arms-loop-arm-preserved g t c = λ x u e. c.loop-arm.invariant x u (rw (front _ c.loop-arm-test.true c.arm-item.is) (rw
     run-arm (passes c.in_ok-place.ensures (tested_on holds _ (by-arm c.args.self.now c.arm-item.result (drop
-    (c.loop-arm.arm-index + 1) c.args.arms.now) c.args.otherwise.now) (then_on c.expression.ensures
-    (c.in_ok-holds.ensures _)) (rw c.if-holds.false e)))))
+    (c.loop-arm.arm-index + 1) c.args.arms.now) c.args.otherwise.now) c.in_ok-holds.ensures (rw c.if-holds.false e)))))
 
 pub arms-returns-in-None : goal.arms-returns-in-None
 arms-returns-in-None g t c = c.loop-arm.invariant _ _ (rw (at_end _ c.loop-arm-test.false) (rw c.in-None.is gives))
@@ -679,77 +693,73 @@ turns-returns-in_err-place g t c = exits c.from_residual.ensures.1 (c.loop-turn.
     (omega arith) c.in_err-place.ensures))
 
 pub turns-returns-in_err-on : goal.turns-returns-in_err-on
-turns-returns-in_err-on g t c = exits c.from_residual-in_err-on.ensures.1 (c.loop-turn.invariant _ _
-    (test-breaks _ c.args.self.now (c.args.left - c.loop-turn._turn) c.args.line c.args.tests.now c.args.after.now
-    c.args.body.now (omega arith) c.in_ok-place.ensures c.in_err-on.ensures))
+turns-returns-in_err-on g t c = exits c.from_residual-in_err-on.ensures.1 (c.loop-turn.invariant _ _ (test-breaks _
+    c.args.self.now (c.args.left - c.loop-turn._turn) c.args.line c.args.tests.now c.args.after.now c.args.body.now
+    (omega arith) c.in_ok-place.ensures c.in_err-on.ensures))
 
 pub turns-returns-then-not-on : goal.turns-returns-then-not-on
 turns-returns-then-not-on g t c = c.loop-turn.invariant _ _ (turns-end _ c.args.self.now (c.args.left -
     c.loop-turn._turn) c.args.line c.args.tests.now c.args.after.now c.args.body.now (omega arith) c.in_ok-place.ensures
     c.in_ok-on.ensures c.if-not-on.true)
 
-pub turns-returns-in_err-statement : goal.turns-returns-in_err-statement
-turns-returns-in_err-statement g t c = exits c.from_residual-in_err-statement.ensures.1 (c.loop-turn.invariant _ _
+pub turns-returns-in_err-loop_body : goal.turns-returns-in_err-loop_body
+turns-returns-in_err-loop_body g t c = exits c.from_residual-in_err-loop_body.ensures.1 (c.loop-turn.invariant _ _
     (body-breaks _ c.args.self.now (c.args.left - c.loop-turn._turn) c.args.line c.args.tests.now c.args.after.now
     c.args.body.now (omega arith) c.in_ok-place.ensures c.in_ok-on.ensures c.if-not-on.false
-    c.in_err-statement.ensures))
+    c.in_err-loop_body.ensures))
 
 pub turns-returns-in-Out : goal.turns-returns-in-Out
 turns-returns-in-Out g t c = c.loop-turn.invariant _ _ (body-out _ c.args.self.now (c.args.left - c.loop-turn._turn)
-    c.args.line c.args.tests.now c.args.after.now c.args.body.now (omega arith) c.in_ok-place.ensures
-    c.in_ok-on.ensures c.if-not-on.false
-    c.in_ok-statement.ensures (sym c.after_body.ensures ∙ c.in-Out.is))
+    c.args.line c.args.tests.now c.args.after.now c.args.body.now (omega arith) c.in_ok-place.ensures c.in_ok-on.ensures
+    c.if-not-on.false c.in_ok-loop_body.ensures (sym c.after_body.ensures ∙ c.in-Out.is))
 
 pub turns-returns-in_err-effects : goal.turns-returns-in_err-effects
-turns-returns-in_err-effects g t c = exits c.from_residual-in_err-effects.ensures.1
-    (c.loop-turn.invariant _ _ (next-breaks _
-    c.args.self.now (c.args.left - c.loop-turn._turn) c.args.line c.args.tests.now c.args.after.now c.args.body.now
-    (omega arith) c.in_ok-place.ensures c.in_ok-on.ensures c.if-not-on.false c.in_ok-statement.ensures
+turns-returns-in_err-effects g t c = exits c.from_residual-in_err-effects.ensures.1 (c.loop-turn.invariant _ _
+    (next-breaks _ c.args.self.now (c.args.left - c.loop-turn._turn) c.args.line c.args.tests.now c.args.after.now
+    c.args.body.now (omega arith) c.in_ok-place.ensures c.in_ok-on.ensures c.if-not-on.false c.in_ok-loop_body.ensures
     (sym c.after_body.ensures ∙ c.in-On.is) c.in_err-effects.ensures))
 
 pub turns-loop-turn-preserved : goal.turns-loop-turn-preserved
 turns-loop-turn-preserved g t c = λ x u e. let n : c.args.left - (c.loop-turn._turn + 1) ≡ c.args.left -
     c.loop-turn._turn - 1 = omega arith in c.loop-turn.invariant x u (turn-goes-on _ c.args.self.now (c.args.left -
     c.loop-turn._turn) c.args.line c.args.tests.now c.args.after.now c.args.body.now (omega arith) c.in_ok-place.ensures
-    c.in_ok-on.ensures c.if-not-on.false
-    c.in_ok-statement.ensures (sym c.after_body.ensures ∙ c.in-On.is) x u c.in_ok-effects.ensures (rw n at e))
+    c.in_ok-on.ensures c.if-not-on.false c.in_ok-loop_body.ensures (sym c.after_body.ensures ∙ c.in-On.is) x u
+    c.in_ok-effects.ensures (rw n at e))
 
 pub turns-returns : goal.turns-returns
 turns-returns g t c = let n : c.args.left - c.loop-turn._turn ≡ 0 = omega arith in c.loop-turn.invariant _ _ (rw n ends)
 
-pub do_turns-returns-in_err-statement : goal.do_turns-returns-in_err-statement
-do_turns-returns-in_err-statement g t c = exits c.from_residual.ensures.1 (c.loop-turn.invariant _ _ (do-body-breaks _
+pub do_turns-returns-in_err-loop_body : goal.do_turns-returns-in_err-loop_body
+do_turns-returns-in_err-loop_body g t c = exits c.from_residual.ensures.1 (c.loop-turn.invariant _ _ (do-body-breaks _
     c.args.self.now (c.args.left - c.loop-turn._turn) c.args.line c.args.test.now c.args.body.now (omega arith) _
-    c.in_err-statement.ensures))
+    c.in_err-loop_body.ensures))
 
 pub do_turns-returns-in-Out : goal.do_turns-returns-in-Out
 do_turns-returns-in-Out g t c = c.loop-turn.invariant _ _ (do-body-out _ c.args.self.now (c.args.left -
-    c.loop-turn._turn) c.args.line c.args.test.now c.args.body.now (omega arith) _ c.in_ok-statement.ensures (sym
+    c.loop-turn._turn) c.args.line c.args.test.now c.args.body.now (omega arith) _ c.in_ok-loop_body.ensures (sym
     c.after_body.ensures ∙ c.in-Out.is))
 
 pub do_turns-returns-in_err-place : goal.do_turns-returns-in_err-place
 do_turns-returns-in_err-place g t c = exits c.from_residual-in_err-place.ensures.1 (c.loop-turn.invariant _ _ (do-stops
     _ c.args.self.now (c.args.left - c.loop-turn._turn) c.args.line c.args.test.now c.args.body.now (omega arith) _
-    c.in_ok-statement.ensures (sym c.after_body.ensures ∙ c.in-On.is) c.in_err-place.ensures))
+    c.in_ok-loop_body.ensures (sym c.after_body.ensures ∙ c.in-On.is) c.in_err-place.ensures))
 
 pub do_turns-returns-in_err-holds : goal.do_turns-returns-in_err-holds
 do_turns-returns-in_err-holds g t c = exits c.from_residual-in_err-holds.ensures.1 (c.loop-turn.invariant _ _
     (do-test-breaks _ c.args.self.now (c.args.left - c.loop-turn._turn) c.args.line c.args.test.now c.args.body.now
-    (omega arith) _ c.in_ok-statement.ensures (sym c.after_body.ensures ∙ c.in-On.is) c.in_ok-place.ensures (then_on
-    c.expression.ensures (c.in_err-holds.ensures _))))
+    (omega arith) _ c.in_ok-loop_body.ensures (sym c.after_body.ensures ∙ c.in-On.is) c.in_ok-place.ensures
+    c.in_err-holds.ensures))
 
 pub do_turns-returns-then-not-holds : goal.do_turns-returns-then-not-holds
 do_turns-returns-then-not-holds g t c = c.loop-turn.invariant _ _ (do-end _ c.args.self.now (c.args.left -
-    c.loop-turn._turn) c.args.line c.args.test.now c.args.body.now (omega arith) _ c.in_ok-statement.ensures (sym
-    c.after_body.ensures ∙ c.in-On.is) c.in_ok-place.ensures (then_on c.expression.ensures (c.in_ok-holds.ensures _))
-    c.if-not-holds.true)
+    c.loop-turn._turn) c.args.line c.args.test.now c.args.body.now (omega arith) _ c.in_ok-loop_body.ensures (sym
+    c.after_body.ensures ∙ c.in-On.is) c.in_ok-place.ensures c.in_ok-holds.ensures c.if-not-holds.true)
 
 pub do_turns-loop-turn-preserved : goal.do_turns-loop-turn-preserved
 do_turns-loop-turn-preserved g t c = λ x u e. let n : c.args.left - (c.loop-turn._turn + 1) ≡ c.args.left -
     c.loop-turn._turn - 1 = omega arith in c.loop-turn.invariant x u (do-goes-on _ c.args.self.now (c.args.left -
-    c.loop-turn._turn) c.args.line c.args.test.now c.args.body.now (omega arith) _ c.in_ok-statement.ensures (sym
-    c.after_body.ensures ∙ c.in-On.is) c.in_ok-place.ensures (then_on c.expression.ensures (c.in_ok-holds.ensures _))
-    c.if-not-holds.false x u (rw n at e))
+    c.loop-turn._turn) c.args.line c.args.test.now c.args.body.now (omega arith) _ c.in_ok-loop_body.ensures (sym
+    c.after_body.ensures ∙ c.in-On.is) c.in_ok-place.ensures c.in_ok-holds.ensures c.if-not-holds.false x u (rw n at e))
 
 pub do_turns-returns : goal.do_turns-returns
 do_turns-returns g t c = let n : c.args.left - c.loop-turn._turn ≡ 0 = omega arith in c.loop-turn.invariant _ _ (rw n
@@ -772,43 +782,43 @@ each-returns-in_err-bind_entry g t c = let r = front-at c.in-Array.array.pairs c
     r.2 (bind-breaks _ c.args.self.now c.args.line c.args.binding.now r.0 _ c.args.body.now c.in_ok-place.ensures
     (at_once (c.in_err-bind_entry.ensures.entry r.0 r.1)))))
 
-pub each-returns-in_err-statement : goal.each-returns-in_err-statement
-each-returns-in_err-statement g t c = let r = front-at c.in-Array.array.pairs c.loop-at.at (omega
-    (arith, c.len-at-end.ensures.len)) in exits c.from_residual-in_err-statement.ensures.1 (c.loop-at.invariant _ _ (rw
+pub each-returns-in_err-loop_body : goal.each-returns-in_err-loop_body
+each-returns-in_err-loop_body g t c = let r = front-at c.in-Array.array.pairs c.loop-at.at (omega
+    (arith, c.len-at-end.ensures.len)) in exits c.from_residual-in_err-loop_body.ensures.1 (c.loop-at.invariant _ _ (rw
     r.2 (each-body-breaks _ c.args.self.now c.args.line c.args.binding.now r.0 _ c.args.body.now c.in_ok-place.ensures
-    (at_once (c.in_ok-bind_entry.ensures.entry r.0 r.1)) c.in_err-statement.ensures)))
+    (at_once (c.in_ok-bind_entry.ensures.entry r.0 r.1)) c.in_err-loop_body.ensures)))
 
 pub each-returns-in-Out : goal.each-returns-in-Out
 each-returns-in-Out g t c = let r = front-at c.in-Array.array.pairs c.loop-at.at (omega
     (arith, c.len-at-end.ensures.len)) in c.loop-at.invariant _ _ (rw r.2 (each-out _ c.args.self.now c.args.line
     c.args.binding.now r.0 _ c.args.body.now c.in_ok-place.ensures (at_once (c.in_ok-bind_entry.ensures.entry r.0 r.1))
-    c.in_ok-statement.ensures (sym c.after_body.ensures ∙ c.in-Out.is)))
+    c.in_ok-loop_body.ensures (sym c.after_body.ensures ∙ c.in-Out.is)))
 
 pub each-loop-at-preserved : goal.each-loop-at-preserved
 each-loop-at-preserved g t c = λ x u e. let r = front-at c.in-Array.array.pairs c.loop-at.at (omega
     (arith, c.len-at-end.ensures.len)) in c.loop-at.invariant x u (rw r.2 (each-goes-on _ c.args.self.now c.args.line
     c.args.binding.now r.0 _ c.args.body.now c.in_ok-place.ensures (at_once (c.in_ok-bind_entry.ensures.entry r.0 r.1))
-    c.in_ok-statement.ensures (sym c.after_body.ensures ∙ c.in-On.is) x u (rw add-one at e)))
+    c.in_ok-loop_body.ensures (sym c.after_body.ensures ∙ c.in-On.is) x u (rw add-one at e)))
 
 pub each-returns : goal.each-returns
 each-returns g t c = let h : length c.in-Array.array.pairs ≤ c.loop-at.at = omega (arith, c.len-at-end.ensures.len) in
     c.loop-at.invariant _ _ (rw (at_end c.in-Array.array.pairs h) gives)
 
 pub statement-effect-requires : goal.statement-effect-requires
-statement-effect-requires g t c = let size = sized c.args.statement.now c.in-Expression.is (size-Expression
-    c.in-Expression.e) in λ κs h. (omega (arith, size, c.decreases), h)
+statement-effect-requires g t c = let size = sized c.args.statement.now c.in-Expression.is (size-Expression _) in λ κs
+    h. (omega (arith, size, c.decreases), h)
 
 pub statement-echo-requires : goal.statement-echo-requires
-statement-echo-requires g t c = let size = sized c.args.statement.now c.in-Echo.is (size-Echo c.in-Echo.operands) in λ
-    κs h. (omega (arith, size, ap expressions_size c.as_slice.ensures, c.decreases), h)
+statement-echo-requires g t c = let size = sized c.args.statement.now c.in-Echo.is (size-Echo _) in λ κs h.
+    (omega (arith, size, ap expressions_size c.as_slice.ensures, c.decreases), h)
 
 pub statement-body-requires : goal.statement-body-requires
-statement-body-requires g t c = let size = sized c.args.statement.now c.in-Block.is (size-Block c.in-Block.statements)
-    in λ κs h. (omega (arith, size, ap body_size c.as_slice-in-Block.ensures, c.decreases), h)
+statement-body-requires g t c = let size = sized c.args.statement.now c.in-Block.is (size-Block _) in λ κs h.
+    (omega (arith, size, ap body_size c.as_slice-in-Block.ensures, c.decreases), h)
 
 pub statement-arms-requires : goal.statement-arms-requires
-statement-arms-requires g t c = let size = sized c.args.statement.now c.in-If.is (size-If c.in-If.arms
-    c.in-If.otherwise) in λ κs h. (omega (arith, size, ap arms_size c.as_slice-in-If.ensures, c.decreases), h)
+statement-arms-requires g t c = let size = sized c.args.statement.now c.in-If.is (size-If _ _) in λ κs h.
+    (omega (arith, size, ap arms_size c.as_slice-in-If.ensures, c.decreases), h)
 
 pub statement-turns-requires : goal.statement-turns-requires
 statement-turns-requires g t c = let size = sized c.args.statement.now c.in-While.is (size-While _ _) in let tests = ap
@@ -830,12 +840,12 @@ statement-foreach-requires g t c = let size = sized c.args.statement.now c.in-Fo
     (omega (arith, size, ap statement_size c.as_ref-in-Foreach.ensures, c.decreases), h)
 
 pub statement-return_value-requires : goal.statement-return_value-requires
-statement-return_value-requires g t c = let size = sized c.args.statement.now c.in-Return.is (size-Return
-    c.in-Return.value) in λ κs h. (omega (arith, size, c.decreases), h)
+statement-return_value-requires g t c = let size = sized c.args.statement.now c.in-Return.is (size-Return _) in λ κs h.
+    (omega (arith, size, c.decreases), h)
 
 pub statement-unset-requires : goal.statement-unset-requires
-statement-unset-requires g t c = let size = sized c.args.statement.now c.in-Unset.is (size-Unset c.in-Unset.places) in λ
-    κs h. (omega (arith, size, ap places_size c.as_slice-in-Unset.ensures, c.decreases), h)
+statement-unset-requires g t c = let size = sized c.args.statement.now c.in-Unset.is (size-Unset _) in λ κs h.
+    (omega (arith, size, ap places_size c.as_slice-in-Unset.ensures, c.decreases), h)
 
 pub statement-constants-requires : goal.statement-constants-requires
 statement-constants-requires g t c = let size = sized c.args.statement.now c.in-Constants.is (size-Constants _) in λ κs
@@ -846,15 +856,19 @@ constants-expression-requires g t c = let size = size-definition c.args.all.now 
     c.loop-definition-test.true c.definition-item.is in λ κs h. (omega (arith, size, c.decreases), h)
 
 pub statement-exit-requires : goal.statement-exit-requires
-statement-exit-requires g t c = let size = sized c.args.statement.now c.in-Exit.is (size-Exit c.in-Exit.value) in λ κs
-    h. (omega (arith, size, c.decreases), h)
+statement-exit-requires g t c = let size = sized c.args.statement.now c.in-Exit.is (size-Exit _) in λ κs h.
+    (omega (arith, size, c.decreases), h)
+
+pub loop_body-body-requires : goal.loop_body-body-requires
+loop_body-body-requires g t c = let size = sized c.args.body.now c.in-Block.is (size-Block _) in λ κs h.
+    (omega (arith, size, ap body_size c.as_slice.ensures, c.decreases), h)
 
 pub body-statement-requires : goal.body-statement-requires
 body-statement-requires g t c = let size = size-in statement_size c.args.statements.now _ c.statement-item.result
     c.loop-statement-test.true c.statement-item.is in λ κs h. (omega (arith, size, c.decreases), h)
 
-pub arms-expression-requires : goal.arms-expression-requires
-arms-expression-requires g t c = let size = size-in arm_size c.args.arms.now _ c.arm-item.result c.loop-arm-test.true
+pub arms-holds-requires : goal.arms-holds-requires
+arms-holds-requires g t c = let size = size-in arm_size c.args.arms.now _ c.arm-item.result c.loop-arm-test.true
     c.arm-item.is in λ κs h. (omega (arith, size, size-arm c.arm-item.result, c.decreases), h)
 
 pub arms-statement-requires : goal.arms-statement-requires

@@ -35,11 +35,11 @@ decreases-arms g l = l.self.now.depth * frame_size l.self.now.bundle.now + (size
     (map arm_size l.arms.now) + option_map_or statement_size l.otherwise.now 0 + 1)
 
 abbrev pub decreases-array : goal.decreases-array
-decreases-array g l = l.self.now.depth * frame_size l.self.now.bundle.now + (4 * most size-Item l.items.now + 2)
+decreases-array g l = l.self.now.depth * frame_size l.self.now.bundle.now + (5 * most size-Item l.items.now + 2)
 
 abbrev pub decreases-assign : goal.decreases-assign
 decreases-assign g l =
-    l.self.now.depth * frame_size l.self.now.bundle.now + (4 * max (size-Place l.place.now)
+    l.self.now.depth * frame_size l.self.now.bundle.now + (5 * max (size-Place l.place.now)
     (size-Expression l.right.now) + 3)
 
 abbrev pub decreases-base : goal.decreases-base
@@ -53,41 +53,41 @@ decreases-call g l = l.self.now.depth * frame_size l.self.now.bundle.now
 
 abbrev pub decreases-chain : goal.decreases-chain
 decreases-chain g l =
-    l.self.now.depth * frame_size l.self.now.bundle.now + (4 * max (size-Expression l.first.now)
+    l.self.now.depth * frame_size l.self.now.bundle.now + (5 * max (size-Expression l.first.now)
     (most size-Link l.links.now) + 3)
 
 abbrev pub decreases-chosen : goal.decreases-chosen
 decreases-chosen g l =
-    l.self.now.depth * frame_size l.self.now.bundle.now + (4 * option_map_or size-Expression l.middle.now 0 + 1)
+    l.self.now.depth * frame_size l.self.now.bundle.now + (5 * option_map_or size-Expression l.middle.now 0 + 1)
 
 abbrev pub decreases-call_builtin : goal.decreases-call_builtin
 decreases-call_builtin g l =
-    l.self.now.depth * frame_size l.self.now.bundle.now + (4 * most size-Expression l.arguments.now + 2)
+    l.self.now.depth * frame_size l.self.now.bundle.now + (expressions_size l.arguments.now + 1)
 
 abbrev pub decreases-coalesce : goal.decreases-coalesce
-decreases-coalesce g l = l.self.now.depth * frame_size l.self.now.bundle.now + (4 * max (size-Expression l.left.now)
+decreases-coalesce g l = l.self.now.depth * frame_size l.self.now.bundle.now + (5 * max (size-Expression l.left.now)
     (size-Expression l.right.now) + 3)
 
 abbrev pub decreases-coalesce_assign : goal.decreases-coalesce_assign
-decreases-coalesce_assign g l = l.self.now.depth * frame_size l.self.now.bundle.now + (4 * max (size-Place l.place.now)
+decreases-coalesce_assign g l = l.self.now.depth * frame_size l.self.now.bundle.now + (5 * max (size-Place l.place.now)
     (size-Expression l.right.now) + 3)
 
 abbrev pub decreases-coalesce_under : goal.decreases-coalesce_under
 decreases-coalesce_under g l =
-    l.self.now.depth * frame_size l.self.now.bundle.now + (4 * size-Expression l.right.now + 2)
+    l.self.now.depth * frame_size l.self.now.bundle.now + (5 * size-Expression l.right.now + 2)
 
 abbrev pub decreases-compound : goal.decreases-compound
 decreases-compound g l =
-    l.self.now.depth * frame_size l.self.now.bundle.now + (4 * max (size-Place l.place.now)
+    l.self.now.depth * frame_size l.self.now.bundle.now + (5 * max (size-Place l.place.now)
     (size-Expression l.right.now) + 3)
 
 abbrev pub decreases-compound_under : goal.decreases-compound_under
 decreases-compound_under g l =
-    l.self.now.depth * frame_size l.self.now.bundle.now + (4 * size-Expression l.right.now + 2)
+    l.self.now.depth * frame_size l.self.now.bundle.now + (5 * size-Expression l.right.now + 2)
 
 abbrev pub decreases-conditional : goal.decreases-conditional
 decreases-conditional g l =
-    l.self.now.depth * frame_size l.self.now.bundle.now + (4 * max (size-Expression l.test.now) (max
+    l.self.now.depth * frame_size l.self.now.bundle.now + (5 * max (size-Expression l.test.now) (max
     (option_map_or size-Expression l.middle.now 0) (size-Expression l.otherwise.now)) + 3)
 
 abbrev pub decreases-constants : goal.decreases-constants
@@ -98,7 +98,7 @@ decreases-do_turns g l =
     l.self.now.depth * frame_size l.self.now.bundle.now + (expression_size l.test.now + statement_size l.body.now + 2)
 
 abbrev pub decreases-each : goal.decreases-each
-decreases-each g l = l.self.now.depth * frame_size l.self.now.bundle.now + (statement_size l.body.now + 1)
+decreases-each g l = l.self.now.depth * frame_size l.self.now.bundle.now + (statement_size l.body.now + 2)
 
 abbrev pub decreases-echo : goal.decreases-echo
 decreases-echo g l = l.self.now.depth * frame_size l.self.now.bundle.now + (expressions_size l.operands.now + 1)
@@ -111,7 +111,7 @@ decreases-for_turns g l = l.self.now.depth * frame_size l.self.now.bundle.now +
 abbrev pub decreases-foreach : goal.decreases-foreach
 decreases-foreach g l =
     l.self.now.depth * frame_size l.self.now.bundle.now + (expression_size l.subject.now + statement_size l.body.now +
-    2)
+    3)
 
 abbrev pub decreases-effect : goal.decreases-effect
 decreases-effect g l = l.self.now.depth * frame_size l.self.now.bundle.now + (expression_size l.e.now + 1)
@@ -131,8 +131,14 @@ decreases-file g l = l.self.now.depth * frame_size l.self.now.bundle.now
 abbrev pub decreases-found : goal.decreases-found
 decreases-found g l = l.self.now.depth * frame_size l.self.now.bundle.now + (expression_size l.e.now + 1)
 
+abbrev pub decreases-holds : goal.decreases-holds
+decreases-holds g l = l.self.now.depth * frame_size l.self.now.bundle.now + (expression_size l.e.now + 1)
+
+abbrev pub decreases-loop_body : goal.decreases-loop_body
+decreases-loop_body g l = l.self.now.depth * frame_size l.self.now.bundle.now + (statement_size l.body.now + 1)
+
 abbrev pub decreases-missing_at : goal.decreases-missing_at
-decreases-missing_at g l = l.self.now.depth * frame_size l.self.now.bundle.now + (4 * size-Place l.place.now + 2)
+decreases-missing_at g l = l.self.now.depth * frame_size l.self.now.bundle.now + (5 * size-Place l.place.now + 2)
 
 abbrev pub decreases-function : goal.decreases-function
 decreases-function g l = l.self.now.depth * frame_size l.self.now.bundle.now + (body_size l.function.now.body + 1)
@@ -145,39 +151,47 @@ decreases-included g l =
     l.self.now.depth * frame_size l.self.now.bundle.now + (body_size (statements_of l.self.now.bundle.now l.file) + 1)
 
 abbrev pub decreases-inclusion : goal.decreases-inclusion
-decreases-inclusion g l = l.self.now.depth * frame_size l.self.now.bundle.now + (4 * size-Expression l.file.now + 2)
+decreases-inclusion g l = l.self.now.depth * frame_size l.self.now.bundle.now + (5 * size-Expression l.file.now + 2)
 
 abbrev pub decreases-index : goal.decreases-index
-decreases-index g l = l.self.now.depth * frame_size l.self.now.bundle.now + (4 * max (size-Expression l.base.now)
+decreases-index g l = l.self.now.depth * frame_size l.self.now.bundle.now + (5 * max (size-Expression l.base.now)
     (most size-Expression l.indices.now) + 3)
 
 abbrev pub decreases-isset : goal.decreases-isset
-decreases-isset g l = l.self.now.depth * frame_size l.self.now.bundle.now + (4 * most size-Place l.places.now + 3)
+decreases-isset g l = l.self.now.depth * frame_size l.self.now.bundle.now + (5 * most size-Place l.places.now + 3)
 
 abbrev pub decreases-item : goal.decreases-item
-decreases-item g l = l.self.now.depth * frame_size l.self.now.bundle.now + (4 * size-Item l.item.now + 1)
+decreases-item g l = l.self.now.depth * frame_size l.self.now.bundle.now + (5 * size-Item l.item.now + 1)
 
 abbrev pub decreases-keyed : goal.decreases-keyed
 decreases-keyed g l =
-    l.self.now.depth * frame_size l.self.now.bundle.now + (4 * max (size-Expression l.key.now)
+    l.self.now.depth * frame_size l.self.now.bundle.now + (5 * max (size-Expression l.key.now)
     (size-Expression l.item.now) + 2)
 
 abbrev pub decreases-link : goal.decreases-link
-decreases-link g l = l.self.now.depth * frame_size l.self.now.bundle.now + (4 * size-Link l.link.now + 1)
+decreases-link g l = l.self.now.depth * frame_size l.self.now.bundle.now + (5 * size-Link l.link.now + 1)
 
 abbrev pub decreases-links : goal.decreases-links
-decreases-links g l = l.self.now.depth * frame_size l.self.now.bundle.now + (4 * most size-Link l.links.now + 2)
+decreases-links g l = l.self.now.depth * frame_size l.self.now.bundle.now + (5 * most size-Link l.links.now + 2)
 
 abbrev pub decreases-named : goal.decreases-named
-decreases-named g l = l.self.now.depth * frame_size l.self.now.bundle.now + (expressions_size l.arguments.now + 1)
+decreases-named g l = l.self.now.depth * frame_size l.self.now.bundle.now + (expressions_size l.arguments.now + 2)
 
 abbrev pub decreases-put : goal.decreases-put
 decreases-put g l =
-    l.self.now.depth * frame_size l.self.now.bundle.now + (4 * max (size-Place l.place.now)
+    l.self.now.depth * frame_size l.self.now.bundle.now + (5 * max (size-Place l.place.now)
     (size-Expression l.right.now) + 3)
 
+abbrev pub decreases-put_assigned : goal.decreases-put_assigned
+decreases-put_assigned g l =
+    l.self.now.depth * frame_size l.self.now.bundle.now + (5 * max (size-Place l.place.now)
+    (size-Expression l.right.now) + 4)
+
+abbrev pub decreases-put_variable : goal.decreases-put_variable
+decreases-put_variable g l = l.self.now.depth * frame_size l.self.now.bundle.now + (expression_size l.right.now + 1)
+
 abbrev pub decreases-put_step : goal.decreases-put_step
-decreases-put_step g l = l.self.now.depth * frame_size l.self.now.bundle.now + (4 * size-Place l.place.now + 3)
+decreases-put_step g l = l.self.now.depth * frame_size l.self.now.bundle.now + (5 * size-Place l.place.now + 3)
 
 abbrev pub decreases-return_value : goal.decreases-return_value
 decreases-return_value g l = l.self.now.depth * frame_size l.self.now.bundle.now + (optional_size l.value.now + 3)
@@ -186,23 +200,26 @@ abbrev pub decreases-statement : goal.decreases-statement
 decreases-statement g l = l.self.now.depth * frame_size l.self.now.bundle.now + statement_size l.statement.now
 
 abbrev pub decreases-step : goal.decreases-step
-decreases-step g l = l.self.now.depth * frame_size l.self.now.bundle.now + (4 * size-Place l.place.now + 3)
+decreases-step g l = l.self.now.depth * frame_size l.self.now.bundle.now + (5 * size-Place l.place.now + 3)
 
 abbrev pub decreases-test : goal.decreases-test
-decreases-test g l = l.self.now.depth * frame_size l.self.now.bundle.now + (4 * most size-Expression l.all.now + 1)
+decreases-test g l = l.self.now.depth * frame_size l.self.now.bundle.now + expressions_size l.all.now
 
 abbrev pub decreases-turns : goal.decreases-turns
 decreases-turns g l = l.self.now.depth * frame_size l.self.now.bundle.now +
     (expressions_size l.tests.now + expressions_size l.after.now + statement_size l.body.now + 1)
 
 abbrev pub decreases-under : goal.decreases-under
-decreases-under g l = l.self.now.depth * frame_size l.self.now.bundle.now + (4 * most size-Expression l.indices.now + 2)
+decreases-under g l = l.self.now.depth * frame_size l.self.now.bundle.now + (5 * most size-Expression l.indices.now + 2)
 
 abbrev pub decreases-unset : goal.decreases-unset
-decreases-unset g l = l.self.now.depth * frame_size l.self.now.bundle.now + (4 * most size-Place l.places.now + 3)
+decreases-unset g l = l.self.now.depth * frame_size l.self.now.bundle.now + (5 * most size-Place l.places.now + 3)
+
+abbrev pub decreases-value : goal.decreases-value
+decreases-value g l = l.self.now.depth * frame_size l.self.now.bundle.now + (expression_size l.e.now + 1)
 
 abbrev pub decreases-values : goal.decreases-values
-decreases-values g l = l.self.now.depth * frame_size l.self.now.bundle.now + (4 * most size-Expression l.all.now + 1)
+decreases-values g l = l.self.now.depth * frame_size l.self.now.bundle.now + expressions_size l.all.now
 
 abbrev pub invariant-values-loop-e : goal.invariant-values-loop-e
 invariant-values-loop-e g l = (x : Result (List Value) Halt) (t : State)
