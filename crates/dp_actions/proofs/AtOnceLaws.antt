@@ -6,6 +6,7 @@ use Rattle.dp_state.specs.declared.moments.Outcome.{Outcome}
 use Rattle.dp_state.specs.declared.state.State.{State}
 use Rattle.dp_actions.specs.declared.halt.Halt.{Halt}
 use Rattle.dp_actions.specs.declared.halt.Halt.TheVariants.{Memory, Finished, Stopped}
+use Rattle.dp_actions.specs.After.{Then}
 use Rattle.dp_actions.specs.AtOnce.{AtOnce, EndsSurely, Leaves}
 use Rattle.dp_actions.specs.Run.{Run, Done, Over, and_then}
 
@@ -60,5 +61,14 @@ module _ {A B : Type 0} where
 pub exits : {B : Type 0} {run : Run B} {s : State} (h : Halt) (x : Result B Halt) → IsErrAnd x (λ y. y ≡ h)
     → AtOnce run (Err h) s → AtOnce run x s
 exits {B} {run} {s} h x i e = let p = err_from_is_err_and x i in rw (p.1, p.2) e
+
+-- what is done with what an evaluation answers: it gave something, or broke off
+module _ {A B : Type 0} {answer : Result A Halt} {next : A → State → Run B} {s : State} where
+  pub then_ok : {a : A} {x : Result B Halt} {t : State} → answer ≡ Ok a → AtOnce (next a s) x t
+      → Then answer next s x t
+  then_ok is e = record { done = rw is e }
+
+  pub then_err : {h : Halt} {x : Result B Halt} → answer ≡ Err h → IsErrAnd x (λ y. y ≡ h) → Then answer next s x s
+  then_err {h} {x} is i = let p = err_from_is_err_and x i in record { done = rw is (rw (p.1, p.2) refl, refl) }
 
 pub ruleset acting = (gives, ends, wants_memory, surely_done, surely_over, breaks_off, goes_on)

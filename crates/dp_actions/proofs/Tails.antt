@@ -1,14 +1,11 @@
 -- What operations and steps give, as a call answers it.
 use Rattle.std.proofs.Common.{◌≡◌, ◌⊎◌, inl, inr, Bool, true, false, Option, Some, None, Result, Ok, Err, refl, sym, ap, ◌∙◌, subst}
 use Rattle.dp_value.specs.declared.errors.CallError.{CallError}
-use Rattle.dp_value.specs.declared.errors.CallError.TheVariants as call
 use Rattle.dp_value.specs.declared.errors.ValueError.{ValueError}
 use Rattle.dp_value.specs.declared.errors.ValueError.TheVariants as value
 use Rattle.dp_value.specs.declared.errors.WriteError.{WriteError}
-use Rattle.dp_value.specs.declared.errors.WriteError.TheVariants as write
 use Rattle.dp_value.specs.declared.value.Value.{Value}
 use Rattle.dp_value.specs.Data.{Data, null, boolean, integer, text, array}
-use Rattle.dp_value.specs.Entry.{IsCause as IsWriteCause}
 use Rattle.dp_value.specs.Value.{data_of, value_of}
 use Rattle.dp_operations.specs.Builtins.{is_null}
 use Rattle.dp_state.proofs.ValueLemmas.{value_of-data_of}
@@ -17,7 +14,7 @@ use Rattle.dp_state.specs.declared.moments.FatalKind.{FatalKind}
 use Rattle.dp_state.specs.declared.state.Fault.{Fault}
 use Rattle.dp_state.specs.declared.state.Fault.TheVariants as fault
 use Rattle.dp_state.specs.declared.state.State.{State}
-use Rattle.dp_state.specs.Faults.{fault_of_call, fault_of_value, fault_of_write}
+use Rattle.dp_state.specs.Faults.{fault_of_value}
 use Rattle.dp_state.specs.States.{IsCause}
 use Rattle.std.specs.Prelude.{if◌then◌else◌, option_map, OnOk, OnErr, IfErr}
 use Rattle.dp_tree.specs.declared.tree.Binding.{Binding}
@@ -38,13 +35,8 @@ module _ (s : State) where
   pub value-err : (table : Result Data ValueError) (why : ValueError) → (why ≡ value.Memory) ⊎ (table ≡ Err why)
       → AtOnce (value_run table s) (Err (halt_of (fault_of_value why) s)) s
   value-err table why (inl e) = rw e wants_memory
-  value-err table value.Overflow (inr e) = rw e ends
-  value-err table value.DivByZero (inr e) = rw e ends
-  value-err table value.BadKey (inr e) = rw e ends
-  value-err table value.NextIndex (inr e) = rw e ends
-  value-err table value.Unsupported (inr e) = rw e ends
-  value-err table value.TooHeavy (inr e) = rw e ends
   value-err table value.Memory (inr e) = wants_memory
+  value-err table why (inr e) = rw e ends
 
   missing-is : (d : Data) → is_missing (value_of d) ≡ is_null d
   missing-is null = refl
@@ -73,31 +65,9 @@ module _ (s : State) where
       → AtOnce (builtin_run table s) (Ok v) s
   builtin-ok table v e = rw (e, value_of-data_of) gives
 
-  pub builtin-err : (table : Result Data CallError) (why : CallError) → (why ≡ call.Memory) ⊎ (table ≡ Err why)
-      → AtOnce (builtin_run table s) (Err (halt_of (fault_of_call why) s)) s
-  builtin-err table why (inl e) = rw e wants_memory
-  builtin-err table call.Overflow (inr e) = rw e ends
-  builtin-err table call.DivByZero (inr e) = rw e ends
-  builtin-err table call.BadKey (inr e) = rw e ends
-  builtin-err table call.NextIndex (inr e) = rw e ends
-  builtin-err table call.Unsupported (inr e) = rw e ends
-  builtin-err table call.TooHeavy (inr e) = rw e ends
-  builtin-err table call.Arguments (inr e) = rw e ends
-  builtin-err table call.Memory (inr e) = wants_memory
-
   pub write-ok : (table : Result Data WriteError) (v : Value) → table ≡ Ok (data_of v)
       → AtOnce (write_run table s) (Ok v) s
   write-ok table v e = rw (e, value_of-data_of) gives
-
-  pub write-err : (table : Result Data WriteError) (why : WriteError) → IsWriteCause table why
-      → AtOnce (write_run table s) (Err (halt_of (fault_of_write why) s)) s
-  write-err table why (inl e) = rw e wants_memory
-  write-err table write.Scalar (inr e) = rw e ends
-  write-err table write.Unsupported (inr e) = rw e ends
-  write-err table write.BadKey (inr e) = rw e ends
-  write-err table write.NextIndex (inr e) = rw e ends
-  write-err table write.TooHeavy (inr e) = rw e ends
-  write-err table write.Memory (inr e) = wants_memory
 
   pub step-ok : (r : Result State FatalKind) (t : State) → r ≡ Ok t → AtOnce (taken r s) (Ok tt) t
   step-ok r t e = rw e gives

@@ -53,11 +53,6 @@ values_run [] setting s = Done [] s
 values_run (first ∷ rest) setting s =
     first.value setting s >>= λ v t. values_run rest setting t >>= λ values u. Done (v ∷ values) u
 
--- a value under one index
-abbrev pub entry_run : (Data → Data → Result Data ValueError) → ExpressionRun → Value → Part Value
-entry_run entry index v setting s =
-    index.value setting s >>= λ i t. value_run (entry (data_of v) (data_of i)) t
-
 -- a value under indices: each is evaluated, and read, before the next
 abbrev pub indices_run : (Data → Data → Result Data ValueError) → List ExpressionRun → Value
     → Part Value

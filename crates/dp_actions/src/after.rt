@@ -29,14 +29,8 @@ use std::alloc::Global;
 pub fn then_unary(op: UnaryOp, operand: Result<Value, Halt>, state: &State) -> Result<Value, Halt>
     ensures { Then operand (λ v s. value_run (unary_of op (data_of v)) s) state.now result state.now }
 {
-    match operand {
-        Ok(value) => {
-            let answer = value_of(unary(op, &value), state);
-            drop(value);
-            answer
-        }
-        Err(halt) => Err(halt),
-    }
+    let value = operand?;
+    value_of(unary(op, &value), state)
 }
 
 /// The value of an operator with two operands.
@@ -49,83 +43,48 @@ pub fn then_binary(
 ) -> Result<Value, Halt>
     ensures { Then right (λ v s. value_run (binary_of op (data_of left) (data_of v)) s) state.now result state.now }
 {
-    match right {
-        Ok(value) => {
-            let answer = operated(alloc, op, left, &value, state);
-            drop(value);
-            answer
-        }
-        Err(halt) => {
-            drop(left);
-            Err(halt)
-        }
-    }
+    let value = right?;
+    operated(alloc, op, left, &value, state)
 }
 
 /// Whether a value holds.
 pub fn then_holds(value: Result<Value, Halt>) -> Result<bool, Halt>
     ensures { (s : AnyState) → Then value (λ v t. Done (holds v) t) s result s }
 {
-    match value {
-        Ok(value) => {
-            let holds = truthy(&value);
-            drop(value);
-            Ok(holds)
-        }
-        Err(halt) => Err(halt),
-    }
+    let value = value?;
+    Ok(truthy(&value))
 }
 
 /// Whether a value holds, as a value.
 pub fn then_truth(value: Result<Value, Halt>) -> Result<Value, Halt>
     ensures { (s : AnyState) → Then value (λ v t. Done (variant.Bool (holds v)) t) s result s }
 {
-    match value {
-        Ok(value) => {
-            let holds = truthy(&value);
-            drop(value);
-            Ok(Value::Bool(holds))
-        }
-        Err(halt) => Err(halt),
-    }
+    let value = value?;
+    Ok(Value::Bool(truthy(&value)))
 }
 
 /// Writes the text of a value.
 pub fn then_print(alloc: Global, value: Result<Value, Halt>, state: &mut State) -> Result<(), Halt>
     ensures { Then value print_run state.old result state.new }
 {
-    match value {
-        Ok(value) => {
-            let answer = print_value(alloc, &value, state);
-            drop(value);
-            answer
-        }
-        Err(halt) => Err(halt),
-    }
+    let value = value?;
+    print_value(alloc, &value, state)
 }
 
 /// Ends the program with a value.
 pub fn then_exit(value: Result<Value, Halt>, state: &mut State) -> Result<Signal, Halt>
     ensures { Then value exit_run state.old result state.new }
 {
-    match value {
-        Ok(value) => {
-            let answer = exit_value(&value, state);
-            drop(value);
-            answer
-        }
-        Err(halt) => Err(halt),
-    }
+    let value = value?;
+    exit_value(&value, state)
 }
 
 /// Out of the function or the file, with a value.
 pub fn then_return(value: Result<Value, Halt>) -> Result<Signal, Halt>
     ensures { (s : AnyState) → Then value (λ v t. Done (way.Return v) t) s result s }
 {
-    match value {
-        Ok(value) => Ok(Signal::Return(value)),
-        Err(halt) => Err(halt),
-    }
+    let value = value?;
+    Ok(Signal::Return(value))
 }
 
 /// A signal, where what came before it is done.
@@ -150,14 +109,8 @@ pub fn then_missing(
 ) -> Result<bool, Halt>
     ensures { Then indices (λ values s. missing_run name.now values s) state.now result state.now }
 {
-    match indices {
-        Ok(indices) => {
-            let answer = is_missing_place(alloc, name, indices.as_slice(), state);
-            drop(indices);
-            answer
-        }
-        Err(halt) => Err(halt),
-    }
+    let indices = indices?;
+    is_missing_place(alloc, name, indices.as_slice(), state)
 }
 
 /// Applies `++` or `--` to a place whose indices are evaluated, and gives the new or the old value, as `order` says.
@@ -171,14 +124,8 @@ pub fn then_step(
 ) -> Result<Value, Halt>
     ensures { Then indices (λ values s. step_under op order name.now values s) state.old result state.new }
 {
-    match indices {
-        Ok(indices) => {
-            let answer = step_place(alloc, op, order, name, indices.as_slice(), state);
-            drop(indices);
-            answer
-        }
-        Err(halt) => Err(halt),
-    }
+    let indices = indices?;
+    step_place(alloc, op, order, name, indices.as_slice(), state)
 }
 
 /// Applies `++` or `--` to a place whose indices are evaluated. Its value is given up.
@@ -192,14 +139,8 @@ pub fn then_put_step(
     ensures { (order : AnyOrder) → Then indices (λ values s. and_then (step_under op order name.now values s) given_up)
         state.old result state.new }
 {
-    match indices {
-        Ok(indices) => {
-            let answer = put_step(alloc, op, name, indices.as_slice(), state);
-            drop(indices);
-            answer
-        }
-        Err(halt) => Err(halt),
-    }
+    let indices = indices?;
+    put_step(alloc, op, name, indices.as_slice(), state)
 }
 
 /// Writes a value, or one more entry, and gives the value.
@@ -213,10 +154,8 @@ pub fn then_assign(
 ) -> Result<Value, Halt>
     ensures { Then value (λ v s. assign_run name.now indices.now push v s) state.old result state.new }
 {
-    match value {
-        Ok(value) => assign_place(alloc, name, indices, push, value, state),
-        Err(halt) => Err(halt),
-    }
+    let value = value?;
+    assign_place(alloc, name, indices, push, value, state)
 }
 
 /// Writes a value, or one more entry.
@@ -231,10 +170,8 @@ pub fn then_put_place(
     ensures { Then value (λ v s. and_then (assign_run name.now indices.now push v s) given_up) state.old result
         state.new }
 {
-    match value {
-        Ok(value) => put_place(alloc, name, indices, push, value, state),
-        Err(halt) => Err(halt),
-    }
+    let value = value?;
+    put_place(alloc, name, indices, push, value, state)
 }
 
 /// Writes what an operator makes of an old value and another one.
@@ -249,15 +186,6 @@ pub fn then_combine(
 ) -> Result<Value, Halt>
     ensures { Then value (λ v s. combined op name.now indices.now old v s) state.old result state.new }
 {
-    match value {
-        Ok(value) => {
-            let answer = combine(alloc, op, name, indices, old, &value, state);
-            drop(value);
-            answer
-        }
-        Err(halt) => {
-            drop(old);
-            Err(halt)
-        }
-    }
+    let value = value?;
+    combine(alloc, op, name, indices, old, &value, state)
 }

@@ -146,8 +146,6 @@ pub fn define_constant(name: &Bytes, value: Value, state: &mut State) -> Result<
 pub fn then_define(name: &Bytes, value: Result<Value, Halt>, state: &mut State) -> Result<(), Halt>
     ensures { Then value (λ v s. Done tt (with_constant name.now v s)) state.old result state.new }
 {
-    match value {
-        Ok(value) => define_constant(name, value, state),
-        Err(halt) => Err(halt),
-    }
+    let value = value?;
+    define_constant(name, value, state)
 }

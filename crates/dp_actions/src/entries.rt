@@ -23,13 +23,8 @@ pub fn then_pushed(
     ensures { Then value (λ v s. write_run (write_result [] true (data_of v) (data_of array)) s) state.now result
         state.now }
 {
-    match value {
-        Ok(value) => pushed(alloc, array, value, state),
-        Err(halt) => {
-            drop(array);
-            Err(halt)
-        }
-    }
+    let value = value?;
+    pushed(alloc, array, value, state)
 }
 
 /// An array with a value under an index.
@@ -43,11 +38,6 @@ pub fn then_put(
     ensures { Then value (λ v s. write_run (write_result (keys_of_indices (index.now ∷ [])) false (data_of v)
         (data_of array)) s) state.now result state.now }
 {
-    match value {
-        Ok(value) => put(alloc, array, index, value, state),
-        Err(halt) => {
-            drop(array);
-            Err(halt)
-        }
-    }
+    let value = value?;
+    put(alloc, array, index, value, state)
 }

@@ -32,7 +32,8 @@ pub fn integer(e: &Expression, state: &State) -> Option<i64>
     }
 }
 
-/// The integer that an operand comes to.
+/// The integer that an operand comes to. `integer` does the same outside the cycle of calls, where a compiler can make
+/// it a part of its caller.
 #[cycle(integers)]
 fn operand(e: &Expression, state: &State) -> Option<i64>
     ensures { IfSome result (λ n. Observed (expression_run e.now).value (Ok (variant.Int n)) state.now) }

@@ -13,6 +13,7 @@ use Rattle.dp_value.specs.declared.key.Key.{Key}
 use Rattle.dp_value.specs.declared.value.Value.{Value}
 use Rattle.dp_value.specs.declared.value.Value.TheVariants.{Null}
 use Rattle.dp_value.specs.Data.{Data}
+use Rattle.dp_value.proofs.PairLemmas.{by_test}
 use Rattle.dp_value.specs.Entry.{removed, write_result}
 use Rattle.dp_value.specs.Value.{data_of, value_of}
 use Rattle.dp_state.specs.declared.moments.FatalKind.TheVariants.{Arguments, OutputFull, Redeclared, TooDeep}
@@ -43,32 +44,22 @@ IsGlobal variable = HasValue variable.1
 abbrev Globals : Variables → Type 0
 Globals vs = AllByRecursion IsGlobal vs
 
-held-with_slot-by : (b : Bool) (e : List ℕ × Slot) (es new : Variables) (v : Value) → Globals (e ∷ es) → Globals new
-    → Globals (if b then (e.0, Held v) ∷ es else e ∷ new)
-held-with_slot-by true e es new v all rest = (tt, all.1)
-held-with_slot-by false e es new v all rest = (all.0, rest)
+held-with_slot : (name : List ℕ) (v : Value) (vs : Variables) → Globals vs → Globals (with_slot vs name (Held v))
+held-with_slot name v =
+    by_test (λ (e : List ℕ × Slot). bytes_eq name e.0) _ (λ all. (tt, tt)) (λ e es h rest all. rw h (tt, all.1))
+    (λ e es h rest all. rw h (all.0, rest all.1))
 
-held-with_slot : (vs : Variables) (name : List ℕ) (v : Value) → Globals vs → Globals (with_slot vs name (Held v))
-held-with_slot [] name v all = (tt, tt)
-held-with_slot (e ∷ es) name v all =
-    held-with_slot-by (bytes_eq name e.0) e es (with_slot es name (Held v)) v all (held-with_slot es name v all.1)
-
-held-without-by : (b : Bool) (e : List ℕ × Slot) (es new : Variables) → Globals (e ∷ es) → Globals new
-    → Globals (if b then es else e ∷ new)
-held-without-by true e es new all rest = all.1
-held-without-by false e es new all rest = (all.0, rest)
-
-held-without : (vs : Variables) (name : List ℕ) → Globals vs → Globals (without vs name)
-held-without [] name all = tt
-held-without (e ∷ es) name all =
-    held-without-by (bytes_eq name e.0) e es (without es name) all (held-without es name all.1)
+held-without : (name : List ℕ) (vs : Variables) → Globals vs → Globals (without vs name)
+held-without name =
+    by_test (λ (e : List ℕ × Slot). bytes_eq name e.0) _ (λ all. tt) (λ e es h rest all. rw h all.1)
+    (λ e es h rest all. rw h (all.0, rest all.1))
 
 held-with_null : (vs : Variables) (name : List ℕ) → Globals vs → Globals (with_null name vs)
 held-with_null vs name all = by (is_some (slot_of vs name))
   where
     by : (b : Bool) → Globals (if b then vs else with_slot vs name (Held Null))
     by true = all
-    by false = held-with_slot vs name Null all
+    by false = held-with_slot name Null vs all
 
 -- ---- frames
 base-with_line : (n : ℕ) (fs : List Frame) → IsBase fs → IsBase (with_line n fs)
@@ -116,67 +107,52 @@ module _ (bundle : Bundle) where
   abbrev IsThere : FunctionRef → Type 0
   IsThere f = f.function < function_count bundle f.file
 
-  -- what is asked of a state, by its parts
-  record Parts (s : State) : Type 0 where
-    pub base : IsBase s.frames
-    pub files : AllByRecursion HasFile s.frames
-    pub globals : Globals s.globals
-    pub constants : Globals s.constants
-    pub declared : All IsThere s.declared
+  base : (s : State) → IsOf bundle s → IsBase s.frames
+  base s is = subst IsBase (sym is.frames) (is.lowest, is.apart)
 
-  parts : (s : State) → IsOf bundle s → Parts s
-  parts s is = record {
-    base = subst IsBase (sym is.frames) (is.lowest, is.apart);
-    files = recursion_from_All HasFile s.frames is.files;
-    globals = recursion_from_All IsGlobal s.globals is.globals;
-    constants = recursion_from_All IsGlobal s.constants is.constants;
+  -- with other frames
+  of-frames : (s : State) (fs : List Frame) → IsBase fs → AllByRecursion HasFile fs → IsOf bundle s
+      → IsOf bundle (record s { frames = fs })
+  of-frames s [] lowest files is = absurd lowest
+  of-frames s (f ∷ fs) lowest files is = record {
+    main = f;
+    above = fs;
+    frames = refl;
+    lowest = lowest.0;
+    apart = lowest.1;
+    globals = is.globals;
+    constants = is.constants;
+    files = All-from_recursion HasFile (f ∷ fs) files;
     declared = is.declared;
   }
 
-  whole-by : (s : State) (fs : List Frame) → s.frames ≡ fs → IsBase fs → Parts s → IsOf bundle s
-  whole-by s [] e base p = absurd base
-  whole-by s (f ∷ fs) e base p = record {
-    main = f;
-    above = fs;
-    frames = e;
-    lowest = base.0;
-    apart = base.1;
-    globals = All-from_recursion IsGlobal s.globals p.globals;
-    constants = All-from_recursion IsGlobal s.constants p.constants;
-    files = All-from_recursion HasFile s.frames p.files;
-    declared = p.declared;
+  -- with all else of another one
+  of-others : (s : State) (globals constants : Variables) (declared : List FunctionRef) (output : List ℕ) (moments : ℕ)
+      → All IsGlobal globals → All IsGlobal constants → All IsThere declared → IsOf bundle s → IsOf bundle
+      (record s { globals = globals; constants = constants; declared = declared; output = output; moments = moments })
+  of-others s globals constants declared output moments held fixed there is = record {
+    main = is.main;
+    above = is.above;
+    frames = is.frames;
+    lowest = is.lowest;
+    apart = is.apart;
+    globals = held;
+    constants = fixed;
+    files = is.files;
+    declared = there;
   }
-
-  whole : (s : State) → Parts s → IsOf bundle s
-  whole s p = whole-by s s.frames refl p.base p
 
   moved : (f g : Frame) → f.file ≡ g.file → HasFile f → HasFile g
   moved f g same h = subst (λ n. n < length bundle.files) same h
 
   pub of-on_line : (n : ℕ) (s : State) → IsOf bundle s → IsOf bundle (on_line n s)
   of-on_line n s is =
-      let p = parts s is in
-      whole (on_line n s) (record {
-        base = base-with_line n s.frames p.base;
-        files = all-with_line HasFile moved n s.frames p.files;
-        globals = p.globals;
-        constants = p.constants;
-        declared = p.declared;
-      })
+      of-frames s (with_line n s.frames) (base-with_line n s.frames (base s is))
+      (all-with_line HasFile moved n s.frames (recursion_from_All HasFile s.frames is.files)) is
 
   pub of-counted : (s : State) → IsOf bundle s → IsOf bundle (counted s)
   of-counted s is =
-      record {
-        main = is.main;
-        above = is.above;
-        frames = is.frames;
-        lowest = is.lowest;
-        apart = is.apart;
-        globals = is.globals;
-        constants = is.constants;
-        files = is.files;
-        declared = is.declared;
-      }
+      of-others s s.globals s.constants s.declared s.output (s.moments + 1) is.globals is.constants is.declared is
 
   printed-by : (piece : List ℕ) (s t : State) (b : Bool)
       → (if b then Ok (record s { output = s.output ++ piece }) else Err OutputFull) ≡ Ok t →
@@ -187,17 +163,8 @@ module _ (bundle : Bundle) where
   pub of-printed : (piece : List ℕ) (s t : State) → printed piece s ≡ Ok t → IsOf bundle s → IsOf bundle t
   of-printed piece s t h is =
       subst (IsOf bundle) (sym (printed-by piece s t (nat_le (length s.output + length piece) output_limit) h))
-      (record {
-        main = is.main;
-        above = is.above;
-        frames = is.frames;
-        lowest = is.lowest;
-        apart = is.apart;
-        globals = is.globals;
-        constants = is.constants;
-        files = is.files;
-        declared = is.declared;
-      })
+      (of-others s s.globals s.constants s.declared (s.output ++ piece) s.moments is.globals is.constants is.declared
+      is)
 
   entered-by : (frame : Frame) (s t : State) (b : Bool)
       → (if b then Ok (record s { frames = s.frames ++ frame ∷ [] }) else Err TooDeep) ≡ Ok t →
@@ -208,63 +175,37 @@ module _ (bundle : Bundle) where
   pub of-entered : (frame : Frame) (s t : State) → entered frame s ≡ Ok t → HasFile frame → IsOf bundle s
       → IsOf bundle t
   of-entered frame s t h there is =
-      let p = parts s is in
-      let u : State = record s { frames = s.frames ++ frame ∷ [] } in
-      let files : AllByRecursion HasFile u.frames = recursion_from_All HasFile (s.frames ++ frame ∷ [])
-      (All-push HasFile s.frames frame is.files there) in
       subst (IsOf bundle) (sym (entered-by frame s t (nat_le (length s.frames + 1) frame_limit) h))
-      (whole u (record {
-        base = base-push s.frames frame p.base;
-        files = files;
-        globals = p.globals;
-        constants = p.constants;
-        declared = p.declared;
-      }))
+      (of-frames s (s.frames ++ frame ∷ []) (base-push s.frames frame (base s is))
+      (recursion_from_All HasFile (s.frames ++ frame ∷ []) (All-push HasFile s.frames frame is.files there)) is)
 
   -- where a frame stands above the main one
   pub of-left : (s : State) → 1 < length s.frames → IsOf bundle s → IsOf bundle (left s)
   of-left s some is =
-      let p = parts s is in
-      whole (left s) (record {
-        base = base-take (length s.frames - 1) s.frames (omega arith) p.base;
-        files = all-take HasFile (length s.frames - 1) s.frames p.files;
-        globals = p.globals;
-        constants = p.constants;
-        declared = p.declared;
-      })
+      of-frames s (take (length s.frames - 1) s.frames)
+      (base-take (length s.frames - 1) s.frames (omega arith) (base s is))
+      (all-take HasFile (length s.frames - 1) s.frames (recursion_from_All HasFile s.frames is.files)) is
 
   of-with_own : (at : ℕ) (vs : Variables) (s : State) → (at ≡ 0 → Globals vs) → IsOf bundle s
       → IsOf bundle (with_own at vs s)
   of-with_own zero vs s held is =
-      let p = parts s is in
-      whole (record s { globals = vs }) (record {
-        base = p.base;
-        files = p.files;
-        globals = held refl;
-        constants = p.constants;
-        declared = p.declared;
-      })
+      of-others s vs s.constants s.declared s.output s.moments (All-from_recursion IsGlobal vs (held refl)) is.constants
+      is.declared is
   of-with_own (suc at) vs s held is =
-      let p = parts s is in
-      let u : State = record s { frames = with_vars (suc at) vs s.frames } in
       subst (IsOf bundle) (sym (above at vs s))
-      (whole u (record {
-        base = base-with_vars (suc at) vs s.frames p.base;
-        files = all-with_vars HasFile moved (suc at) vs s.frames p.files;
-        globals = p.globals;
-        constants = p.constants;
-        declared = p.declared;
-      }))
+      (of-frames s (with_vars (suc at) vs s.frames) (base-with_vars (suc at) vs s.frames (base s is))
+      (all-with_vars HasFile moved (suc at) vs s.frames (recursion_from_All HasFile s.frames is.files)) is)
 
   own-held : (s : State) (at : ℕ) → IsOf bundle s → at ≡ 0 → Globals (own_variables s at)
-  own-held s at is lowest = subst (λ n. Globals (own_variables s n)) (sym lowest) (parts s is).globals
+  own-held s at is lowest = subst (λ n. Globals (own_variables s n)) (sym lowest)
+      (recursion_from_All IsGlobal s.globals is.globals)
 
   pub of-with_value : (level : ℕ) (name : List ℕ) (v : Value) (s : State) → IsOf bundle s
       → IsOf bundle (with_value level name v s)
   of-with_value level name v s is =
       subst (IsOf bundle) (sym (value-home s level name v))
       (of-with_own (home s level name) (with_slot (own_variables s (home s level name)) name (Held v)) s
-      (λ lowest. held-with_slot (own_variables s (home s level name)) name v (own-held s (home s level name) is lowest))
+      (λ lowest. held-with_slot name v (own_variables s (home s level name)) (own-held s (home s level name) is lowest))
       is)
 
   then-kept : (r : Result Data WriteError) (f : Data → State) (t : State) → then_state r f ≡ Ok t
@@ -283,7 +224,7 @@ module _ (bundle : Bundle) where
   of-without_variable : (name : List ℕ) (s : State) → IsOf bundle s → IsOf bundle (without_variable name s)
   of-without_variable name s is =
       of-with_own (owner_at s 0) (without (own_variables s (owner_at s 0)) name) s
-      (λ lowest. held-without (own_variables s (owner_at s 0)) name (own-held s (owner_at s 0) is lowest)) is
+      (λ lowest. held-without name (own_variables s (owner_at s 0)) (own-held s (owner_at s 0) is lowest)) is
 
   entry-kept : (name : List ℕ) (keys : List (Option Key)) (s t : State) (o : Option Value) →
       option_map_or (λ value. then_state (removed keys (data_of value)) (λ d. with_value 0 name (value_of d) s)) o
@@ -301,7 +242,8 @@ module _ (bundle : Bundle) where
 
   of-made : (name : List ℕ) (s : State) → IsOf bundle s → IsOf bundle (record s { globals = with_null name s.globals })
   of-made name s is =
-      of-with_own 0 (with_null name s.globals) s (λ _. held-with_null s.globals name (parts s is).globals) is
+      of-with_own 0 (with_null name s.globals) s
+      (λ _. held-with_null s.globals name (recursion_from_All IsGlobal s.globals is.globals)) is
 
   global-by : (name : List ℕ) (s : State) (at : ℕ) → IsOf bundle s →
       IsOf bundle (if at == 0 then record s { globals = with_null name s.globals }
@@ -324,14 +266,10 @@ module _ (bundle : Bundle) where
       by : (b : Bool) → IsOf bundle (if b then s else record s { constants = with_slot s.constants name (Held v) })
       by true = is
       by false =
-          let p = parts s is in
-          whole (record s { constants = with_slot s.constants name (Held v) }) (record {
-            base = p.base;
-            files = p.files;
-            globals = p.globals;
-            constants = held-with_slot s.constants name v p.constants;
-            declared = p.declared;
-          })
+          let constants = with_slot s.constants name (Held v) in
+          of-others s s.globals constants s.declared s.output s.moments is.globals
+          (All-from_recursion IsGlobal constants
+          (held-with_slot name v s.constants (recursion_from_All IsGlobal s.constants is.constants))) is.declared is
 
   called-by : (file : ℕ) (function : Function) (values : List Value) (s t : State) (b : Bool) →
       (if b then entered (called_frame file function values) s else Err Arguments) ≡ Ok t
@@ -355,19 +293,11 @@ module _ (bundle : Bundle) where
 
   of-declared : (file : ℕ) (s : State) → IsOf bundle s
       → IsOf bundle (record s { declared = s.declared ++ functions_of bundle file })
-  of-declared file s is = record {
-    main = is.main;
-    above = is.above;
-    frames = is.frames;
-    lowest = is.lowest;
-    apart = is.apart;
-    globals = is.globals;
-    constants = is.constants;
-    files = is.files;
-    declared =
-        All-append IsThere s.declared (functions_of bundle file) is.declared
-        (first-there file (function_count bundle file) (omega arith));
-  }
+  of-declared file s is =
+      of-others s s.globals s.constants (s.declared ++ functions_of bundle file) s.output s.moments is.globals
+      is.constants
+      (All-append IsThere s.declared (functions_of bundle file) is.declared
+      (first-there file (function_count bundle file) (omega arith))) is
 
   included-by : (file : ℕ) (s t : State) (b d : Bool) →
       (if b then (if d then Err Redeclared

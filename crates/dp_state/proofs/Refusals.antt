@@ -3,7 +3,7 @@ use Rattle.std.proofs.Common.{◌≡◌, ◌≢◌, ◌⊎◌, inl, inr, ◌==�
 use Rattle.dp_value.specs.declared.errors.WriteError.{WriteError}
 use Rattle.dp_value.specs.declared.errors.WriteError.TheVariants as write
 use Rattle.dp_value.specs.declared.key.Key.{Key}
-use Rattle.dp_value.specs.Data.{Data, Table, data_of_table, null, boolean, integer, text, array, pairs_of, weight_of}
+use Rattle.dp_value.specs.Data.{Data, Table, data_of_table, boolean, array, pairs_of, weight_of}
 use Rattle.dp_value.specs.Entry.{entry_at, holder_of, in_array, is_full, light, pushed, removed, then_data, then_key, then_table, with_entry, write_result, written}
 use Rattle.dp_value.specs.Table.{table_exchange, table_push, table_remove, table_set, value_at, weight_limit}
 use Rattle.dp_state.specs.declared.moments.FatalKind.{FatalKind}
@@ -36,12 +36,9 @@ free-if true d r free e = cc
 free-if false d r free e = free e
 
 free-array : (d : Data) (f : Table → Result Data WriteError) → ((t : Table) → IsFree (f t)) → IsFree (in_array d f)
-free-array null f free e = cc
-free-array (boolean true) f free e = cc
-free-array (boolean false) f free e = cc
-free-array (integer n) f free e = cc
-free-array (text bytes) f free e = cc
 free-array (array es largest) f free e = free (record { pairs = pairs_of es; largest = largest }) e
+free-array (boolean true) f free e = cc
+free-array d f free e = cc
 
 removed-free : (keys : List (Option Key)) (d : Data) → IsFree (removed keys d)
 removed-free [] d e = cc
@@ -58,12 +55,8 @@ free-table (Err why) f holds free e =
     holds (ap (λ (w : WriteError). let r : Result Table WriteError = Err w in r) same)
 
 holder-free : (d : Data) → holder_of d ≢ Err write.Memory
-holder-free null e = cc
 holder-free (boolean true) e = cc
-holder-free (boolean false) e = cc
-holder-free (integer n) e = cc
-holder-free (text bytes) e = cc
-holder-free (array es largest) e = cc
+holder-free d e = cc
 
 free-cond : (b : Bool) (why : WriteError) (d : Data) → why ≢ write.Memory → IsFree (cond b (Err why) (Ok d))
 free-cond true why d free e = let same : why ≡ write.Memory = cc in free same
@@ -94,12 +87,8 @@ step_of (Err why) = Err (fault_of_write why)
 
 fatal : {X : Type 0} (asked : Result Data WriteError) (why : WriteError) → IsFree asked → asked ≡ Err why
     → step_of {X = X} (Err why) ≡ Err (fault.Fatal (kind_of_write why))
-fatal asked write.Scalar free is = refl
-fatal asked write.Unsupported free is = refl
-fatal asked write.BadKey free is = refl
-fatal asked write.NextIndex free is = refl
-fatal asked write.TooHeavy free is = refl
 fatal asked write.Memory free is = absurd (free is)
+fatal asked why free is = refl
 
 module _ {X : Type 0} (name : List ℕ) (es : Variables) (r : Result X WriteError) where
   sure-by : (asked result : Result Data WriteError) → ((why : WriteError) → asked ≡ Err why → r ≡ Err why)

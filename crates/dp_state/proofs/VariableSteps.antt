@@ -1,6 +1,5 @@
 -- A step on a variable, by the own variables of one frame: they are taken out, changed, and put back.
 use Rattle.std.proofs.Common.{◌≡◌, ◌≢◌, ◌⊎◌, inl, inr, ℕ, ◌-◌, ◌≤◌, ◌==◌, Bool, true, false, not, if◌then◌else◌, List, [], ◌∷◌, length, Option, Some, None, is_some, unwrap_or, Result, Ok, Err, IfErr, OnOk, OnErr, refl, sym, ap, ◌∙◌, subst, arith}
-use Rattle.std.proofs.lemmas.Bool.Decides.{nat_tests}
 use Rattle.std.specs.Option.{option_map_or}
 use Rattle.dp_state.specs.declared.moments.FatalKind.{FatalKind}
 use Rattle.dp_state.specs.declared.state.Fault.{Fault}
@@ -8,7 +7,7 @@ use Rattle.dp_state.specs.declared.state.Fault.TheVariants as fault
 use Rattle.dp_state.specs.declared.state.State.{State}
 use Rattle.dp_state.specs.declared.vars.Slot.{Slot}
 use Rattle.dp_state.specs.declared.vars.Slot.TheVariants.{Held, Bound}
-use Rattle.dp_state.specs.Places.{assigned, is_bound, then_state, unset, with_global, with_null, with_own, with_value, without_entry, without_variable}
+use Rattle.dp_state.specs.Places.{assigned, is_bound, then_state, unset, with_global, with_null, with_own, with_value, without_entry}
 use Rattle.dp_state.specs.inner.Parts.{assigned_in, home, removed_in, then_variables, IsCauseIn, IsSureIn}
 use Rattle.dp_state.specs.States.{own_variables, owner_at, read_at, variables_at, IsCause, IsSure}
 use Rattle.dp_state.specs.Variables.{Variables, slot_of, value_held, value_through, with_slot, without}
@@ -118,6 +117,13 @@ module _ (s : State) (level : ℕ) (name : List ℕ) where
       ∙ then-home (write_result keys push (data_of value) (data_of
       (unwrap_or (value_held (slot_of (own_variables s (home s level name)) name)) Null)))
 
+  pub assigned-at : (at : ℕ) → at ≡ home s level name → (keys : List (Option Key)) (push : Bool) (value : Value)
+      → assigned level name keys push value s ≡ with_result at s
+      (assigned_in name keys push value (own_variables s at))
+  assigned-at at is keys push value =
+      assigned-home keys push value
+      ∙ ap (λ (n : ℕ). with_result n s (assigned_in name keys push value (own_variables s n))) (sym is)
+
 -- ---- unset
 removed-by : (s : State) (name : List ℕ) (keys : List (Option Key)) (o : Option Value)
     → home s 0 name ≤ length s.frames - 1 →
@@ -133,19 +139,15 @@ unset-some : (name : List ℕ) (keys : List (Option Key)) (s : State) → (lengt
 unset-some name [] s some = cc
 unset-some name (key ∷ keys) s some = refl
 
-pub unset-none : (name : List ℕ) (keys : List (Option Key)) (s : State) → (length keys == 0) ≡ true
-    → unset name keys s ≡ Ok (without_variable name s)
-unset-none name [] s none = refl
-unset-none name (key ∷ keys) s none = let some : (length (key ∷ keys) == 0) ≡ false = grind (arith, nat_tests) in cc
-
-pub unset-home : (name : List ℕ) (keys : List (Option Key)) (s : State) → (length keys == 0) ≡ false
-    → home s 0 name ≤ length s.frames - 1 →
-    unset name keys s ≡ with_result (home s 0 name) s (removed_in name keys (own_variables s (home s 0 name)))
-unset-home name keys s some within =
+pub unset-home : (name : List ℕ) (keys : List (Option Key)) (s : State) (at : ℕ) → at ≡ home s 0 name
+    → (length keys == 0) ≡ false → at ≤ length s.frames - 1 →
+    unset name keys s ≡ with_result at s (removed_in name keys (own_variables s at))
+unset-home name keys s at is some within =
     unset-some name keys s some
     ∙ ap (λ (o : Option Value). option_map_or (λ value. then_state (removed keys (data_of value))
     (λ d. with_value 0 name (value_of d) s)) o (Ok s)) (read-home s 0 name)
-    ∙ removed-by s name keys (value_held (slot_of (own_variables s (home s 0 name)) name)) within
+    ∙ removed-by s name keys (value_held (slot_of (own_variables s (home s 0 name)) name)) (rw is at within)
+    ∙ ap (λ (n : ℕ). with_result n s (removed_in name keys (own_variables s n))) (sym is)
 
 -- ---- global
 module _ (s : State) (name : List ℕ) (globals : Variables) (made : globals ≡ with_null name s.globals) where

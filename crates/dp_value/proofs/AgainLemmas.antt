@@ -13,6 +13,7 @@ use Rattle.dp_value.specs.Table.{find_value, put, raised, table_set, weight_limi
 use Rattle.dp_value.specs.Entry.{entry_at, holder_of, light, then_data, then_table, within, write_result, written}
 use Rattle.dp_value.specs.inner.Writes.{written_in}
 use Rattle.dp_value.proofs.KeyLemmas.{key_eq_equivalence}
+use Rattle.dp_value.proofs.PairLemmas.{by_test, has}
 use Rattle.dp_value.proofs.WriteLemmas.{holder_of-table, light-true, light_was, within_nothing, within_set}
 
 -- ---- a lighter value
@@ -61,23 +62,14 @@ module _ (k : Key) (d : Data) where
   itself : key_eq k k ≡ true
   itself = key_eq_equivalence.refl k
 
-  found-put-more : (p : Key × Data) (ps : List (Key × Data)) (b : Bool) → key_eq k p.0 ≡ b
-      → find_value (key_eq k) (put ps k d) ≡ Some d → find_value (key_eq k) (put (p ∷ ps) k d) ≡ Some d
-  found-put-more p ps true h rest = rw (h, h) refl
-  found-put-more p ps false h rest = rw (h, h) rest
-
   found-put : (ps : List (Key × Data)) → find_value (key_eq k) (put ps k d) ≡ Some d
-  found-put [] = rw itself refl
-  found-put (p ∷ ps) = found-put-more p ps (key_eq k p.0) refl (found-put ps)
+  found-put =
+      by_test (has k) _ (rw itself refl) (λ p ps h rest. rw (h, h) refl) (λ p ps h rest. rw (h, h) rest)
 
-  put-put-more : (p : Key × Data) (ps : List (Key × Data)) (e : Data) (b : Bool) → key_eq k p.0 ≡ b
-      → put (put ps k d) k e ≡ put ps k e → put (put (p ∷ ps) k d) k e ≡ put (p ∷ ps) k e
-  put-put-more p ps e true h rest = rw (h, h) refl
-  put-put-more p ps e false h rest = rw (h, h) (ap (λ qs. p ∷ qs) rest)
-
-  put-put : (ps : List (Key × Data)) (e : Data) → put (put ps k d) k e ≡ put ps k e
-  put-put [] e = rw itself refl
-  put-put (p ∷ ps) e = put-put-more p ps e (key_eq k p.0) refl (put-put ps e)
+  put-put : (e : Data) (ps : List (Key × Data)) → put (put ps k d) k e ≡ put ps k e
+  put-put e =
+      by_test (has k) _ (rw itself refl) (λ p ps h rest. rw (h, h) refl)
+      (λ p ps h rest. rw (h, h) (ap (λ qs. p ∷ qs) rest))
 
 raised-raised : (largest : Option ℤ) (k : Key) → raised (raised largest k) k ≡ raised largest k
 raised-raised largest (Text bytes) = refl
@@ -89,7 +81,7 @@ raised-raised (Some m) (Int n) =
 
 set-set : (t : Table) (k : Key) (d e : Data) → table_set (table_set t k d) k e ≡ table_set t k e
 set-set t k d e =
-    let pairs = put-put k d t.pairs e in
+    let pairs = put-put k d e t.pairs in
     let largest = raised-raised t.largest k in
     λ i. record { pairs = pairs i; largest = largest i }
 

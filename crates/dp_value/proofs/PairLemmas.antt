@@ -1,5 +1,5 @@
 -- Columns of keys and values, as pairs.
-use Rattle.std.proofs.Common.{◌≡◌, ℕ, zero, suc, ◌<◌, Bool, true, false, List, [], ◌∷◌, length, map, slice_get, Some, None, MatchOption, nat_lt, refl, ap, ◌∙◌, inl, inr, ◌⊎◌, arith}
+use Rattle.std.proofs.Common.{◌≡◌, ℕ, zero, suc, ◌<◌, Bool, true, false, List, [], ◌∷◌, length, map, slice_get, Some, None, MatchOption, nat_lt, refl, ap, sym, ◌∙◌, inl, inr, ◌⊎◌, arith}
 use Rattle.std.proofs.lemmas.Bool.Decides.{nat_tests}
 use Rattle.std.proofs.Common.{◌+◌, ◌≤◌, ◌++◌, set, remove, take}
 use Rattle.std.proofs.lemmas.Option.{same_Some}
@@ -10,6 +10,21 @@ use Rattle.dp_value.specs.Data.{Data, weight_of, pairs_weight}
 use Rattle.dp_value.specs.Table.{find_value, keys_of, put, swapped, take_away, values_of}
 use Rattle.dp_value.specs.Place.{IsAbsent, IsFirst}
 
+-- what holds of no element, of those behind one that passes a test and of those behind one that fails it
+module _ {X : Type 0} (test : X → Bool) (P : List X → Type 0) (none : P [])
+    (passes : (x : X) (xs : List X) → test x ≡ true → P xs → P (x ∷ xs))
+    (fails : (x : X) (xs : List X) → test x ≡ false → P xs → P (x ∷ xs)) where
+  by_answer : (x : X) (xs : List X) (b : Bool) → test x ≡ b → P xs → P (x ∷ xs)
+  by_answer x xs true h rest = passes x xs h rest
+  by_answer x xs false h rest = fails x xs h rest
+
+  pub by_test : (xs : List X) → P xs
+  by_test [] = none
+  by_test (x ∷ xs) = by_answer x xs (test x) refl (by_test xs)
+
+abbrev pub has : Key → Key × Data → Bool
+has key p = key_eq key p.0
+
 -- a pair, by its key and its value
 pub pair_some : (ps : List (Key × Data)) (i : ℕ) (k : Key) (d : Data) → slice_get (keys_of ps) i ≡ Some k
     → slice_get (values_of ps) i ≡ Some d → slice_get ps i ≡ Some (k, d)
@@ -19,12 +34,6 @@ pair_some (p ∷ ps) zero k d h g =
     let value : p.1 ≡ d = same_Some p.1 d g in
     λ i. Some (key i, value i)
 pair_some (p ∷ ps) (suc i) k d h g = pair_some ps i k d h g
-
--- a position that was read, up to the end
-pub read-past : {X : Type 0} (xs : List X) (i : ℕ) → None ≡ slice_get xs i → length xs ≤ i
-read-past [] i h = omega arith
-read-past (x ∷ xs) zero h = absurd (cc)
-read-past (x ∷ xs) (suc i) h = omega (arith, read-past xs i h)
 
 pub map-read : {X Y : Type 0} (f : X → Y) (xs : List X) (i : ℕ) (x : X) → Some x ≡ slice_get xs i
     → map f (take i xs) ++ f x ∷ [] ≡ map f (take (suc i) xs)
@@ -38,16 +47,13 @@ Places test xs =
     ((position_or_len test xs ≡ length xs) × IsAbsent test xs)
     ⊎ ((position_or_len test xs < length xs) × IsFirst test xs (position_or_len test xs))
 
-places_more : {X : Type 0} (test : X → Bool) (x : X) (xs : List X) (b : Bool) → test x ≡ b → Places test xs
-    → Places test (x ∷ xs)
-places_more test x xs true h rest = let e : position_or_len test (x ∷ xs) ≡ zero = rw h in rw e (inr (omega arith, h))
-places_more test x xs false h rest =
-    let e : position_or_len test (x ∷ xs) ≡ suc (position_or_len test xs) = rw h (omega arith) in
-    elim rest [ inl r ↦ inl (e ∙ omega arith, (h, r.1)) | inr r ↦ rw e (inr (omega arith, (h, r.1))) ]
-
 places : {X : Type 0} (test : X → Bool) (xs : List X) → Places test xs
-places test [] = inl (refl, tt)
-places test (x ∷ xs) = places_more test x xs (test x) refl (places test xs)
+places test =
+    by_test test _ (inl (refl, tt))
+    (λ x xs h rest. let e : position_or_len test (x ∷ xs) ≡ zero = rw h in rw e (inr (omega arith, h)))
+    (λ x xs h rest.
+    let e : position_or_len test (x ∷ xs) ≡ suc (position_or_len test xs) = rw h (omega arith) in
+    elim rest [ inl r ↦ inl (e ∙ omega arith, (h, r.1)) | inr r ↦ rw e (inr (omega arith, (h, r.1))) ])
 
 -- where the first element that passes stands
 pub placed : {X : Type 0} (test : X → Bool) (xs : List X)
@@ -116,11 +122,12 @@ weight-at (k ∷ ks) (e ∷ ds) (suc n) d same at =
     let rest : weight_of d ≤ pairs_weight (zip ks ds) = weight-at ks ds n d (omega arith) at in omega (arith, rest)
 
 -- ---- a removal
-pub take_away-absent : (key : Key) (ks : List Key) (ds : List Data) → IsAbsent (key_eq key) ks
-    → take_away (zip ks ds) key ≡ zip ks ds
-take_away-absent key [] ds h = refl
-take_away-absent key (k ∷ ks) [] h = refl
-take_away-absent key (k ∷ ks) (e ∷ ds) h = rw h.0 (ap (λ ps. (k, e) ∷ ps) (take_away-absent key ks ds h.1))
+pub take_away-missing : (key : Key) (ps : List (Key × Data)) → find_value (key_eq key) ps ≡ None
+    → take_away ps key ≡ ps
+take_away-missing key =
+    by_test (has key) _ (λ missing. refl)
+    (λ p ps h rest missing. let none : Some p.1 ≡ None = rw h at missing in cc)
+    (λ p ps h rest missing. rw h (ap (λ qs. p ∷ qs) (rest (rw h at missing))))
 
 pub take_away-first : (key : Key) (ks : List Key) (ds : List Data) (n : ℕ) → IsFirst (key_eq key) ks n
     → length ds ≡ length ks → take_away (zip ks ds) key ≡ zip (remove ks n) (remove ds n)
@@ -161,18 +168,10 @@ swapped-first key (k ∷ ks) (e ∷ ds) zero d h same = rw h
 swapped-first key (k ∷ ks) (e ∷ ds) (suc n) d h same =
     rw h.0 (ap (λ ps. (k, e) ∷ ps) (swapped-first key ks ds n d h.1 (omega arith)))
 
-pub swapped-absent : (key : Key) (ks : List Key) (ds : List Data) (d : Data) → IsAbsent (key_eq key) ks
-    → swapped (zip ks ds) key d ≡ zip ks ds
-swapped-absent key [] ds d h = refl
-swapped-absent key (k ∷ ks) [] d h = refl
-swapped-absent key (k ∷ ks) (e ∷ ds) d h = rw h.0 (ap (λ ps. (k, e) ∷ ps) (swapped-absent key ks ds d h.1))
-
 pub weight-swapped-first : (key : Key) (ks : List Key) (ds : List Data) (n : ℕ) (old d : Data)
-    → IsFirst (key_eq key) ks n → slice_get ds n ≡ Some old →
+    → IsFirst (key_eq key) ks n → length ds ≡ length ks → slice_get ds n ≡ Some old →
     pairs_weight (swapped (zip ks ds) key d) + weight_of old ≡ pairs_weight (zip ks ds) + weight_of d
-weight-swapped-first key [] ds n old d h at = elim h [ ]
-weight-swapped-first key (k ∷ ks) [] n old d h at = cc
-weight-swapped-first key (k ∷ ks) (e ∷ ds) zero old d h at =
-    let s : weight_of e ≡ weight_of old = ap weight_of (same_Some e old at) in rw h (omega (arith, s))
-weight-swapped-first key (k ∷ ks) (e ∷ ds) (suc n) old d h at =
-    let rest = weight-swapped-first key ks ds n old d h.1 at in rw h.0 (omega (arith, rest))
+weight-swapped-first key ks ds n old d h same at =
+    ap (λ (ps : List (Key × Data)). pairs_weight ps + weight_of old) (swapped-first key ks ds n d h same
+    ∙ sym (put-first key ks ds n d h same))
+    ∙ weight-put-first key ks ds n old d h at

@@ -7,38 +7,22 @@ use Rattle.dp_value.specs.declared.key.Key.{Key}
 use Rattle.dp_value.specs.inner.Codes.{table_from-data_of_table}
 use Rattle.dp_value.specs.Key.{key_eq}
 use Rattle.dp_value.specs.Data.{Data, Entries, Table, null, boolean, integer, text, array, no_entries, entry, pairs_of, weight_of, entries_weight, pairs_weight, data_of_table}
-use Rattle.dp_value.specs.Table.{empty, find_value, swapped, table_exchange, table_remove, take_away, value_at, weight_limit, IsTable}
+use Rattle.dp_value.specs.Table.{find_value, swapped, table_exchange, table_remove, take_away, value_at, weight_limit, IsTable}
+use Rattle.dp_value.proofs.PairLemmas.{by_test, has, take_away-missing}
+use Rattle.dp_value.proofs.TableLemmas.{light_take_away}
 use Rattle.dp_value.proofs.WriteLemmas.{exchange-same, swapped-swapped}
 use Rattle.dp_value.specs.Entry.{in_array, removed, then_data, then_key, with_entry, IsCause}
 use Rattle.dp_value.specs.inner.Removals.{removed_in, IsAnswer}
 
 -- ---- weights
-weight-swapped-more : (p : Key × Data) (ps : List (Key × Data)) (key : Key) (d e : Data) (b : Bool) → key_eq key p.0 ≡ b
-    → weight_of e ≤ weight_of d →
-    (find_value (key_eq key) ps ≡ Some d → pairs_weight (swapped ps key e) ≤ pairs_weight ps)
-    → find_value (key_eq key) (p ∷ ps) ≡ Some d →
-    pairs_weight (swapped (p ∷ ps) key e) ≤ pairs_weight (p ∷ ps)
-weight-swapped-more p ps key d e true h lighter rest found =
-    let same : weight_of p.1 ≡ weight_of d = ap weight_of (same_Some p.1 d (rw h at found)) in
-    rw h (omega (arith, lighter, same))
-weight-swapped-more p ps key d e false h lighter rest found = rw h (omega (arith, rest (rw h at found)))
-
 -- a lighter value in the place of another
-pub weight-swapped : (ps : List (Key × Data)) (key : Key) (d e : Data) → weight_of e ≤ weight_of d
-    → find_value (key_eq key) ps ≡ Some d →
-    pairs_weight (swapped ps key e) ≤ pairs_weight ps
-weight-swapped [] key d e lighter found = cc
-weight-swapped (p ∷ ps) key d e lighter found =
-    weight-swapped-more p ps key d e (key_eq key p.0) refl lighter (weight-swapped ps key d e lighter) found
-
-weight-take_away-more : (p : Key × Data) (ps : List (Key × Data)) (key : Key) (b : Bool) → key_eq key p.0 ≡ b →
-    pairs_weight (take_away ps key) ≤ pairs_weight ps → pairs_weight (take_away (p ∷ ps) key) ≤ pairs_weight (p ∷ ps)
-weight-take_away-more p ps key true h rest = rw h (omega arith)
-weight-take_away-more p ps key false h rest = rw h (omega (arith, rest))
-
-weight-take_away : (ps : List (Key × Data)) (key : Key) → pairs_weight (take_away ps key) ≤ pairs_weight ps
-weight-take_away [] key = omega arith
-weight-take_away (p ∷ ps) key = weight-take_away-more p ps key (key_eq key p.0) refl (weight-take_away ps key)
+weight-swapped : (key : Key) (d e : Data) → weight_of e ≤ weight_of d → (ps : List (Key × Data))
+    → find_value (key_eq key) ps ≡ Some d → pairs_weight (swapped ps key e) ≤ pairs_weight ps
+weight-swapped key d e lighter =
+    by_test (has key) _ (λ found. cc)
+    (λ p ps h rest found. let same : weight_of p.1 ≡ weight_of d = ap weight_of (same_Some p.1 d (rw h at found)) in
+    rw h (omega (arith, lighter, same)))
+    (λ p ps h rest found. rw h (omega (arith, rest (rw h at found))))
 
 weight-pairs_of : (es : Entries) → pairs_weight (pairs_of es) ≡ entries_weight es
 weight-pairs_of no_entries = refl
@@ -59,7 +43,7 @@ module _ (keys : List (Option Key)) (k : Key) (es : Entries) (largest : Option �
   at_child c (Ok x) there is g =
       let same : data_of_table (table_exchange t k x) ≡ e = cc in
       let weighs : pairs_weight (swapped (pairs_of es) k x) ≡ weight_of e = ap weight_of same in
-      omega (arith, weighs, weight-swapped t.pairs k c x (lighter c x is) there, weight-pairs_of es)
+      omega (arith, weighs, weight-swapped k c x (lighter c x is) t.pairs there, weight-pairs_of es)
   at_child c (Err why) there is g = cc
 
   at_entry : (found : Option Data) → value_at t k ≡ found → with_entry t k (removed keys) found ≡ Ok e
@@ -76,7 +60,7 @@ module _ (keys : List (Option Key)) (k : Key) (es : Entries) (largest : Option �
   at_test true g =
       let same : data_of_table (table_remove t k) ≡ e = cc in
       let weighs : pairs_weight (take_away (pairs_of es) k) ≡ weight_of e = ap weight_of same in
-      omega (arith, weighs, weight-take_away t.pairs k, weight-pairs_of es)
+      omega (arith, weighs, light_take_away k t.pairs, weight-pairs_of es)
   at_test false g = at_entry (value_at t k) refl g
 
 pub removed-lighter : (keys : List (Option Key)) (d e : Data) → removed keys d ≡ Ok e → weight_of e ≤ weight_of d
@@ -101,31 +85,10 @@ removed-under key k rest t is =
     in-table t (λ u. then_key key (λ x. removed_in x rest u)) ∙ ap (λ (o : Option Key). then_key o
     (λ x. removed_in x rest t)) is
 
-empty-by : (k : Key) (rest : List (Option Key)) (b : Bool)
-    → (if b then Ok (data_of_table (table_remove empty k)) else with_entry empty k (removed rest) (value_at empty k))
-    ≡ Ok (data_of_table empty)
-empty-by k rest true = refl
-empty-by k rest false = refl
-
--- nothing is removed from an array that never had an entry
-pub removed-empty : (k : Key) (rest : List (Option Key)) → removed_in k rest empty ≡ Ok (data_of_table empty)
-removed-empty k rest = empty-by k rest (length rest == 0)
-
-take_away-missing-more : (p : Key × Data) (ps : List (Key × Data)) (k : Key) (b : Bool) → key_eq k p.0 ≡ b
-    → (find_value (key_eq k) ps ≡ None → take_away ps k ≡ ps) → find_value (key_eq k) (p ∷ ps) ≡ None
-    → take_away (p ∷ ps) k ≡ p ∷ ps
-take_away-missing-more p ps k true h rest missing = let none : Some p.1 ≡ None = rw h at missing in cc
-take_away-missing-more p ps k false h rest missing = rw h (ap (λ qs. p ∷ qs) (rest (rw h at missing)))
-
-take_away-missing : (ps : List (Key × Data)) (k : Key) → find_value (key_eq k) ps ≡ None → take_away ps k ≡ ps
-take_away-missing [] k missing = refl
-take_away-missing (p ∷ ps) k missing =
-    take_away-missing-more p ps k (key_eq k p.0) refl (take_away-missing ps k) missing
-
 -- nothing is removed where the key is not there
 pub nothing-removed : (t : Table) (k : Key) → value_at t k ≡ None → t ≡ table_remove t k
 nothing-removed t k missing =
-    λ i. record { pairs = sym (take_away-missing t.pairs k missing) i; largest = t.largest }
+    λ i. record { pairs = sym (take_away-missing k t.pairs missing) i; largest = t.largest }
 
 some-pairs : (ps : List (Key × Data)) (k : Key) (d : Data) → Some d ≡ find_value (key_eq k) ps → 0 < length ps
 some-pairs [] k d there = cc
@@ -191,8 +154,8 @@ module _ (k : Key) (rest : List (Option Key)) (t : Table) where
     back-weight d lighter =
         omega (
           arith,
-          ap pairs_weight (swapped-swapped t.pairs k null d),
-          weight-swapped t.pairs k child d lighter there,
+          ap pairs_weight (swapped-swapped k null d t.pairs),
+          weight-swapped k child d lighter t.pairs there,
           table.light,
         )
 

@@ -3,7 +3,7 @@ use Rattle.std.proofs.Common.{◌≡◌, Some, None, ℕ, zero, suc, ◌-◌, �
 use Rattle.std.proofs.lemmas.List.Elements.{All-from_recursion}
 use Rattle.std.proofs.lemmas.Map.Keys.{IsDistinct-head, IsDistinct-tail}
 use Rattle.std.specs.Cmp.{int_chain, int_cmp_is, int_ranks}
-use Rattle.std.specs.List.{IsDistinct, AllByRecursion}
+use Rattle.std.specs.List.{IsDistinct}
 use Rattle.std.specs.Ordering.{MatchOrdering, int_cmp, int_eq, is_eq}
 use Rattle.std.specs.declared.cmp.Ordering.{Ordering}
 use Rattle.std.specs.declared.cmp.Ordering.TheVariants.{Less, Equal, Greater}
@@ -85,15 +85,11 @@ rise-absent n [] rise = tt
 rise-absent n (Int x ∷ ks) rise = (int_below n x rise.0, rise-absent n ks (rise-lower n x ks rise.0 rise.1))
 rise-absent n (Text bytes ∷ ks) rise = absurd rise
 
-absent-apart : (key : Key) (ks : List Key) → IsAbsent (key_eq key) ks → AllByRecursion (λ k. key_eq key k ≡ false) ks
-absent-apart key [] absent = tt
-absent-apart key (k ∷ ks) absent = (absent.0, absent-apart key ks absent.1)
-
 pub rising-distinct : (ks : List Key) → IsRising ks → IsDistinct key_eq ks
 unfolding IsDistinct
 rising-distinct [] rise = tt
 rising-distinct (Int n ∷ ks) rise =
-    (absent-apart (Int n) ks (rise-absent n ks rise), rising-distinct ks (rise-rising n ks rise))
+    (rise-absent n ks rise, rising-distinct ks (rise-rising n ks rise))
 rising-distinct (Text bytes ∷ ks) rise = absurd rise
 
 pub rising-text : (bytes : List ℕ) (ks : List Key) → IsRising ks → IsAbsent (key_eq (Text bytes)) ks

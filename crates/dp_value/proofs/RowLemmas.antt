@@ -1,126 +1,82 @@
 -- The rows of an array of which some are removed already, and the place of a key in a column like that.
-use Rattle.std.proofs.Common.{◌≡◌, ℕ, zero, suc, ◌+◌, ◌≤◌, ◌<◌, Bool, true, false, List, [], ◌∷◌, ◌++◌, length, set, take, drop, get_or, remove, refl, sym, ◌∙◌, subst, arith}
-use Rattle.std.proofs.lemmas.List.{length-set, length_push}
-use Rattle.std.proofs.lemmas.List.Edits.{length-remove, length-swap, swap_is}
+use Rattle.std.proofs.Common.{◌≡◌, ℕ, zero, suc, ◌+◌, ◌≤◌, ◌<◌, Bool, true, false, List, [], ◌∷◌, ◌++◌, length, set, take, drop, remove, refl, sym, ◌∙◌, subst, inl, inr, length-append, arith}
+use Rattle.std.proofs.lemmas.Bool.{cases_eq, cases_lt}
+use Rattle.std.proofs.lemmas.List.{get_or-set_other, get_or-set_same, get_or_append_left, length-set, length_push}
+use Rattle.std.proofs.lemmas.List.Edits.{get_or-remove_below, length-remove, length-swap, swapped_from_swap}
 use Rattle.std.proofs.lemmas.Map.Keys.{IsDistinct-head, IsDistinct-tail}
-use Rattle.std.specs.List.{swap, IsDistinct, AllByRecursion}
+use Rattle.std.specs.List.{swap, IsDistinct}
 use Rattle.dp_value.specs.declared.key.Key.{Key}
 use Rattle.dp_value.specs.declared.value.Value.{Value}
 use Rattle.dp_value.specs.declared.value.Value.TheVariants.{Null}
 use Rattle.dp_value.specs.Place.{IsAbsent, IsFirst}
 use Rattle.dp_value.specs.inner.Left.{left, row_at}
 use Rattle.dp_value.specs.inner.Rows.{AreNull, AreRows, GoesLast, Rises}
-use Rattle.dp_value.proofs.LeftLemmas.{length-left, left-next, left-none, left-push, left-remove, left-swap, left-swap_back}
+use Rattle.dp_value.proofs.LeftLemmas.{length-left, left-next, left-none, left-push, left-remove, left-swap, left-swap_back, row-before, row-behind}
 use Rattle.dp_value.proofs.RisingLemmas.{rising-remove}
 
 -- ---- the rows that are removed
-pub nulls_within : (s g : ℕ) (vs : List Value) → AreNull s g vs → s + g ≤ length vs
-nulls_within zero zero vs are = omega arith
-nulls_within zero (suc g) [] are = absurd are
-nulls_within zero (suc g) (v ∷ vs) are = omega (arith, nulls_within zero g vs are.1)
-nulls_within (suc s) g [] are = absurd are
-nulls_within (suc s) g (v ∷ vs) are = omega (arith, nulls_within s g vs are)
-
 pub AreNull-none : (s : ℕ) (vs : List Value) → s ≤ length vs → AreNull s 0 vs
-AreNull-none zero vs within = tt
-AreNull-none (suc s) [] within = absurd (omega arith)
-AreNull-none (suc s) (v ∷ vs) within = AreNull-none s vs (omega arith)
+AreNull-none s vs within = record { within = omega arith; null = λ r from to. absurd (omega arith) }
+
+row_apart : (s g i r : ℕ) → s ≤ r → r < s + g → r ≡ row_at s g i → ⊥
+row_apart s g i r from to at = elim (cases_lt i s) [
+  | inl before ↦ omega (arith, row-before s g i before)
+  | inr behind ↦ omega (arith, row-behind s g i behind)
+]
 
 pub AreNull-set : (s g i : ℕ) (vs : List Value) (v : Value) → AreNull s g vs → AreNull s g (set vs (row_at s g i) v)
-AreNull-set zero zero i vs v are = tt
-AreNull-set zero (suc g) i [] v are = absurd are
-AreNull-set zero (suc g) i (w ∷ vs) v are =
-    let e : suc g + i ≡ suc (g + i) = omega arith in rw e (are.0, AreNull-set zero g i vs v are.1)
-AreNull-set (suc s) g i [] v are = absurd are
-AreNull-set (suc s) g zero (w ∷ vs) v are = are
-AreNull-set (suc s) g (suc i) (w ∷ vs) v are = AreNull-set s g i vs v are
+AreNull-set s g i vs v are = record {
+  within = omega (arith, length-set vs (row_at s g i) v);
+  null =
+      λ r from to. get_or-set_other vs (row_at s g i) r v Null (row_apart s g i r from to) ∙ are.null r from to;
+}
 
-pub AreNull-append : (s g : ℕ) (vs ws : List Value) → AreNull s g vs → AreNull s g (vs ++ ws)
-AreNull-append zero zero vs ws are = tt
-AreNull-append zero (suc g) [] ws are = absurd are
-AreNull-append zero (suc g) (v ∷ vs) ws are = (are.0, AreNull-append zero g vs ws are.1)
-AreNull-append (suc s) g [] ws are = absurd are
-AreNull-append (suc s) g (v ∷ vs) ws are = AreNull-append s g vs ws are
+AreNull-append : (s g : ℕ) (vs ws : List Value) → AreNull s g vs → AreNull s g (vs ++ ws)
+AreNull-append s g vs ws are = record {
+  within = omega (arith, length-append vs ws);
+  null = λ r from to. get_or_append_left vs ws Null r (omega arith) ∙ are.null r from to;
+}
 
-pub AreNull-remove : (s g i : ℕ) (vs : List Value) → AreNull s g vs → s ≤ i → AreNull s g (remove vs (g + i))
-AreNull-remove zero zero i vs are past = tt
-AreNull-remove zero (suc g) i [] are past = absurd are
-AreNull-remove zero (suc g) i (v ∷ vs) are past =
-    let e : suc g + i ≡ suc (g + i) = omega arith in rw e (are.0, AreNull-remove zero g i vs are.1 (omega arith))
-AreNull-remove (suc s) g i [] are past = absurd are
-AreNull-remove (suc s) g zero (v ∷ vs) are past = absurd (omega arith)
-AreNull-remove (suc s) g (suc i) (v ∷ vs) are past =
-    let e : g + suc i ≡ suc (g + i) = omega arith in rw e (AreNull-remove s g i vs are (omega arith))
+AreNull-remove : (s g i : ℕ) (vs : List Value) → AreNull s g vs → s ≤ i → g + i < length vs
+    → AreNull s g (remove vs (g + i))
+AreNull-remove s g i vs are past within = record {
+  within = omega (arith, length-remove vs (g + i) within);
+  null = λ r from to. get_or-remove_below vs (g + i) Null r (omega arith) within ∙ are.null r from to;
+}
 
-next_first : (g : ℕ) (vs : List Value) (w : Value) → AreNull zero g vs → g < length vs → w ≡ Null
-    → AreNull zero (suc g) (set vs g w)
-next_first zero [] w are within null = absurd (omega arith)
-next_first zero (v ∷ vs) w are within null = (null, tt)
-next_first (suc g) [] w are within null = absurd are
-next_first (suc g) (v ∷ vs) w are within null = (are.0, next_first g vs w are.1 (omega arith) null)
-
-pub AreNull-next : (s g : ℕ) (vs : List Value) → AreNull s g vs → s + g < length vs
+AreNull-next : (s g : ℕ) (vs : List Value) → AreNull s g vs → s + g < length vs
     → AreNull s (suc g) (set vs (s + g) Null)
-AreNull-next zero g vs are within =
-    let e : 0 + g ≡ g = omega arith in rw e (next_first g vs Null are (omega arith) refl)
-AreNull-next (suc s) g [] are within = absurd are
-AreNull-next (suc s) g (v ∷ vs) are within =
-    let e : suc s + g ≡ suc (s + g) = omega arith in rw e (AreNull-next s g vs are (omega arith))
+AreNull-next s g vs are within = record {
+  within = omega (arith, length-set vs (s + g) Null);
+  null = λ r from to. elim (cases_eq r (s + g)) [
+    | inl at ↦ rw at (get_or-set_same vs (s + g) Null Null within)
+    | inr other ↦ get_or-set_other vs (s + g) r Null Null other ∙ are.null r from (omega (arith, other))
+  ];
+}
 
-first_null : (s g : ℕ) (vs : List Value) → AreNull s (suc g) vs → get_or vs s Null ≡ Null
-first_null zero g [] are = absurd are
-first_null zero g (v ∷ vs) are = are.0
-first_null (suc s) g [] are = absurd are
-first_null (suc s) g (v ∷ vs) are = first_null s g vs are
-
-moved : (s g : ℕ) (vs : List Value) (v w : Value) → AreNull s (suc g) vs → s + suc g < length vs → w ≡ Null
-    → AreNull (suc s) (suc g) (set (set vs s v) (s + suc g) w)
-moved zero g [] v w are within null = absurd are
-moved zero g (x ∷ vs) v w are within null =
-    let e : 0 + suc g ≡ suc g = omega arith in rw e (next_first g vs w are.1 (omega arith) null)
-moved (suc s) g [] v w are within null = absurd are
-moved (suc s) g (x ∷ vs) v w are within null =
-    let e : suc s + suc g ≡ suc (s + suc g) = omega arith in rw e (moved s g vs v w are (omega arith) null)
-
-pub AreNull-swap : (s g : ℕ) (vs : List Value) → 0 < g → AreNull s g vs → s + g < length vs
+-- the first row behind them moves before them, or the last row before them moves behind them
+AreNull-swap : (s g : ℕ) (vs : List Value) → 0 < g → AreNull s g vs → s + g < length vs
     → AreNull (suc s) g (swap vs s (s + g))
-AreNull-swap s zero vs some are within = absurd (omega arith)
-AreNull-swap s (suc g) vs some are within =
-    subst (λ (ws : List Value). AreNull (suc s) (suc g) ws)
-    (swap_is vs s (s + suc g) Null (omega arith) within)
-    (moved s g vs (get_or vs (s + suc g) Null) (get_or vs s Null) are within (first_null s g vs are))
+AreNull-swap s g vs some are within =
+    let swapped = swapped_from_swap vs (swap vs s (s + g)) s (s + g) Null (omega arith) within refl in
+    record {
+      within = omega (arith, length-swap vs s (s + g));
+      null = λ r from to. elim (cases_eq r (s + g)) [
+        | inl at ↦ rw at (swapped.1 ∙ are.null s (omega arith) (omega arith))
+        | inr other ↦ swapped.2 r (λ at. omega arith) other ∙ are.null r (omega arith) (omega (arith, other))
+      ];
+    }
 
--- the last row before them moves behind them
-last_null : (s g : ℕ) (vs : List Value) → AreNull s (suc g) vs → get_or vs (s + g) Null ≡ Null
-last_null zero g [] are = absurd are
-last_null zero zero (v ∷ vs) are = are.0
-last_null zero (suc g) (v ∷ vs) are =
-    let e : 0 + suc g ≡ suc (0 + g) = omega arith in rw e (last_null zero g vs are.1)
-last_null (suc s) g [] are = absurd are
-last_null (suc s) g (v ∷ vs) are = let e : suc s + g ≡ suc (s + g) = omega arith in rw e (last_null s g vs are)
-
-last_set : (g : ℕ) (vs : List Value) (w : Value) → AreNull zero (suc g) vs → AreNull zero g (set vs g w)
-last_set zero vs w are = tt
-last_set (suc g) [] w are = absurd are
-last_set (suc g) (v ∷ vs) w are = (are.0, last_set g vs w are.1)
-
-back : (s g : ℕ) (vs : List Value) (v w : Value) → AreNull (suc s) (suc g) vs → v ≡ Null
-    → AreNull s (suc g) (set (set vs s v) (s + suc g) w)
-back s g [] v w are null = absurd are
-back zero g (x ∷ vs) v w are null =
-    let e : 0 + suc g ≡ suc g = omega arith in rw e (null, last_set g vs w are)
-back (suc s) g (x ∷ vs) v w are null =
-    let e : suc s + suc g ≡ suc (s + suc g) = omega arith in rw e (back s g vs v w are null)
-
-pub AreNull-back : (s g : ℕ) (vs : List Value) → 0 < g → AreNull (suc s) g vs → AreNull s g (swap vs s (s + g))
-AreNull-back s zero vs some are = absurd (omega arith)
-AreNull-back s (suc g) vs some are =
-    let within = nulls_within (suc s) (suc g) vs are in
-    let e : s + suc g ≡ suc s + g = omega arith in
-    let null : get_or vs (s + suc g) Null ≡ Null = rw e (last_null (suc s) g vs are) in
-    subst (λ (ws : List Value). AreNull s (suc g) ws)
-    (swap_is vs s (s + suc g) Null (omega arith) (omega arith))
-    (back s g vs (get_or vs (s + suc g) Null) (get_or vs s Null) are null)
+AreNull-back : (s g : ℕ) (vs : List Value) → 0 < g → AreNull (suc s) g vs → AreNull s g (swap vs s (s + g))
+AreNull-back s g vs some are =
+    let swapped = swapped_from_swap vs (swap vs s (s + g)) s (s + g) Null (omega arith) (omega arith) refl in
+    record {
+      within = omega (arith, length-swap vs s (s + g));
+      null = λ r from to. elim (cases_eq r s) [
+        | inl at ↦ rw at (swapped.0 ∙ are.null (s + g) (omega arith) (omega arith))
+        | inr other ↦ swapped.2 r other (λ at. omega arith) ∙ are.null r (omega (arith, other)) (omega arith)
+      ];
+    }
 
 -- ---- columns of keys and of values
 rises-remove : (r : Bool) (ks : List Key) (i : ℕ) → Rises r ks → Rises r (remove ks i)
@@ -175,7 +131,7 @@ module _ {s g : ℕ} {r : Bool} {ks : List Key} {vs : List Value} (are : AreRows
           within = omega (arith, short);
           rises = rw (left-remove s g i ks past) (rises-remove r (left s g ks) i are.keys.rises);
         };
-        nulls = AreNull-remove s g i vs are.nulls past;
+        nulls = AreNull-remove s g i vs are.nulls past within;
         same_length = omega (arith, are.same_length, short, length-remove vs (g + i) within);
       }
 
@@ -278,17 +234,12 @@ first_left test (suc s) g (suc i) (suc n) (x ∷ xs) h at past =
 
 -- a row that is removed is not among those that are left
 module _ {X : Type 0} (eq : X → X → Bool) (exact : (x y : X) → eq x y ≡ true → x ≡ y) where
-  apart : (x : X) (ys : List X) → AllByRecursion (λ y. eq x y ≡ false) ys → IsAbsent (eq x) ys
-  apart x [] h = tt
-  apart x (y ∷ ys) h = (h.0, apart x ys h.1)
-
   gone-absent_behind : (x : X) (g n : ℕ) (ys : List X) → IsDistinct eq ys → IsFirst (eq x) ys n → n < g
       → IsAbsent (eq x) (drop g ys)
   gone-absent_behind x zero n ys is h before = absurd (omega arith)
   gone-absent_behind x (suc g) n [] is h before = absurd h
   gone-absent_behind x (suc g) zero (y ∷ ys) is h before =
-      let others : IsAbsent (eq y) ys = apart y ys (IsDistinct-head eq y ys is) in
-      absent_behind (eq x) g ys (subst (λ (z : X). IsAbsent (eq z) ys) (sym (exact x y h)) others)
+      absent_behind (eq x) g ys (subst (λ (z : X). IsAbsent (eq z) ys) (sym (exact x y h)) (IsDistinct-head eq y ys is))
   gone-absent_behind x (suc g) (suc n) (y ∷ ys) is h before =
       gone-absent_behind x g n ys (IsDistinct-tail eq y ys is) h.1 (omega arith)
 

@@ -11,32 +11,19 @@ use Rattle.dp_value.specs.Key.{key_eq}
 use Rattle.dp_value.specs.Data.{Data, Table, pairs_weight}
 use Rattle.dp_value.specs.Table.{empty, keys_of, put, take_away, swapped, raised, table_set, table_exchange, table_remove, weight_limit, IsUpTo, IsTable}
 use Rattle.dp_value.proofs.KeyLemmas.{key_eq_equivalence}
+use Rattle.dp_value.proofs.PairLemmas.{by_test, has}
 
-keys_of-put_present-more : (p : Key × Data) (ps : List (Key × Data)) (key : Key) (d : Data) (b : Bool)
-    → key_eq key p.0 ≡ b →
-    (list_any (key_eq key) (keys_of ps) ≡ true → keys_of (put ps key d) ≡ keys_of ps) →
-    list_any (key_eq key) (keys_of (p ∷ ps)) ≡ true → keys_of (put (p ∷ ps) key d) ≡ keys_of (p ∷ ps)
-keys_of-put_present-more p ps key d true h rest any = rw h
-keys_of-put_present-more p ps key d false h rest any = rw h (ap (λ ks. p.0 ∷ ks) (rest (rw h at any)))
-
-pub keys_of-put_present : (ps : List (Key × Data)) (key : Key) (d : Data) → list_any (key_eq key) (keys_of ps) ≡ true
+pub keys_of-put_present : (key : Key) (d : Data) (ps : List (Key × Data)) → list_any (key_eq key) (keys_of ps) ≡ true
     → keys_of (put ps key d) ≡ keys_of ps
-keys_of-put_present [] key d any = cc
-keys_of-put_present (p ∷ ps) key d any =
-    keys_of-put_present-more p ps key d (key_eq key p.0) refl (keys_of-put_present ps key d) any
+keys_of-put_present key d =
+    by_test (has key) _ (λ any. cc) (λ p ps h rest any. rw h)
+    (λ p ps h rest any. rw h (ap (λ ks. p.0 ∷ ks) (rest (rw h at any))))
 
-keys_of-put_absent-more : (p : Key × Data) (ps : List (Key × Data)) (key : Key) (d : Data) (b : Bool)
-    → key_eq key p.0 ≡ b →
-    (list_any (key_eq key) (keys_of ps) ≡ false → keys_of (put ps key d) ≡ keys_of ps ++ key ∷ []) →
-    list_any (key_eq key) (keys_of (p ∷ ps)) ≡ false → keys_of (put (p ∷ ps) key d) ≡ keys_of (p ∷ ps) ++ key ∷ []
-keys_of-put_absent-more p ps key d true h rest any = let never : true ≡ false = rw h at any in cc
-keys_of-put_absent-more p ps key d false h rest any = rw h (ap (λ ks. p.0 ∷ ks) (rest (rw h at any)))
-
-pub keys_of-put_absent : (ps : List (Key × Data)) (key : Key) (d : Data) → list_any (key_eq key) (keys_of ps) ≡ false
+pub keys_of-put_absent : (key : Key) (d : Data) (ps : List (Key × Data)) → list_any (key_eq key) (keys_of ps) ≡ false
     → keys_of (put ps key d) ≡ keys_of ps ++ key ∷ []
-keys_of-put_absent [] key d any = refl
-keys_of-put_absent (p ∷ ps) key d any =
-    keys_of-put_absent-more p ps key d (key_eq key p.0) refl (keys_of-put_absent ps key d) any
+keys_of-put_absent key d =
+    by_test (has key) _ (λ any. refl) (λ p ps h rest any. let never : true ≡ false = rw h at any in cc)
+    (λ p ps h rest any. rw h (ap (λ ks. p.0 ∷ ks) (rest (rw h at any))))
 
 le_int_max : (m n : ℤ) → (m ≤ℤ int_max m n) × (n ≤ℤ int_max m n)
 le_int_max m n = (omega (arith, ints, int_max_is m n), omega (arith, ints, int_max_is m n))
@@ -56,7 +43,7 @@ IsUpTo-new (Some m) (Int n) = (le_int_max m n).1
 IsTable-set-by : (t : Table) (key : Key) (d : Data) → IsTable t → pairs_weight (put t.pairs key d) ≤ weight_limit →
     (b : Bool) → list_any (key_eq key) (keys_of t.pairs) ≡ b → IsTable (table_set t key d)
 IsTable-set-by t key d is light true any =
-    let same = sym (keys_of-put_present t.pairs key d any) in
+    let same = sym (keys_of-put_present key d t.pairs any) in
     record {
       distinct = subst (λ (ks : List Key). IsDistinct key_eq ks) same is.distinct;
       up_to = subst (λ (ks : List Key). All (IsUpTo (raised t.largest key)) ks) same
@@ -65,7 +52,7 @@ IsTable-set-by t key d is light true any =
       light = light;
     }
 IsTable-set-by t key d is light false any =
-    let same = sym (keys_of-put_absent t.pairs key d any) in
+    let same = sym (keys_of-put_absent key d t.pairs any) in
     record {
       distinct =
           subst (λ (ks : List Key). IsDistinct key_eq ks) same
@@ -87,66 +74,40 @@ unfolding IsDistinct
 IsTable-empty = record { distinct = tt; up_to = All-nil (IsUpTo None); light = omega arith }
 
 -- ---- a removal
-all_take_away-more : (P : Key → Type 0) (p : Key × Data) (ps : List (Key × Data)) (key : Key) (b : Bool)
-    → key_eq key p.0 ≡ b →
-    AllByRecursion P (keys_of (p ∷ ps)) → AllByRecursion P (keys_of (take_away ps key))
-    → AllByRecursion P (keys_of (take_away (p ∷ ps) key))
-all_take_away-more P p ps key true h all rest = rw h all.1
-all_take_away-more P p ps key false h all rest = rw h (all.0, rest)
-
-pub all_take_away : (P : Key → Type 0) (ps : List (Key × Data)) (key : Key) → AllByRecursion P (keys_of ps)
+pub all_take_away : (P : Key → Type 0) (key : Key) (ps : List (Key × Data)) → AllByRecursion P (keys_of ps)
     → AllByRecursion P (keys_of (take_away ps key))
-all_take_away P [] key all = tt
-all_take_away P (p ∷ ps) key all =
-    all_take_away-more P p ps key (key_eq key p.0) refl all (all_take_away P ps key all.1)
+all_take_away P key =
+    by_test (has key) _ (λ all. tt) (λ p ps h rest all. rw h all.1) (λ p ps h rest all. rw h (all.0, rest all.1))
 
-distinct_take_away-more : (p : Key × Data) (ps : List (Key × Data)) (key : Key) (b : Bool) → key_eq key p.0 ≡ b →
-    IsDistinct key_eq (keys_of (p ∷ ps)) → IsDistinct key_eq (keys_of (take_away ps key))
-    → IsDistinct key_eq (keys_of (take_away (p ∷ ps) key))
-distinct_take_away-more p ps key true h is rest = rw h (IsDistinct-tail key_eq p.0 (keys_of ps) is)
-distinct_take_away-more p ps key false h is rest =
-    rw h (IsDistinct-cons key_eq p.0 (keys_of (take_away ps key))
-    (all_take_away (λ k. key_eq p.0 k ≡ false) ps key (IsDistinct-head key_eq p.0 (keys_of ps) is)) rest)
-
-pub distinct_take_away : (ps : List (Key × Data)) (key : Key) → IsDistinct key_eq (keys_of ps)
+pub distinct_take_away : (key : Key) (ps : List (Key × Data)) → IsDistinct key_eq (keys_of ps)
     → IsDistinct key_eq (keys_of (take_away ps key))
-distinct_take_away [] key is = is
-distinct_take_away (p ∷ ps) key is =
-    distinct_take_away-more p ps key (key_eq key p.0) refl is
-    (distinct_take_away ps key (IsDistinct-tail key_eq p.0 (keys_of ps) is))
+distinct_take_away key =
+    by_test (has key) _ (λ is. is) (λ p ps h rest is. rw h (IsDistinct-tail key_eq p.0 (keys_of ps) is))
+    (λ p ps h rest is. rw h (IsDistinct-cons key_eq p.0 (keys_of (take_away ps key))
+    (all_take_away (λ k. key_eq p.0 k ≡ false) key ps (IsDistinct-head key_eq p.0 (keys_of ps) is))
+    (rest (IsDistinct-tail key_eq p.0 (keys_of ps) is))))
 
-light_take_away-more : (p : Key × Data) (ps : List (Key × Data)) (key : Key) (b : Bool) → key_eq key p.0 ≡ b →
-    pairs_weight (take_away ps key) ≤ pairs_weight ps → pairs_weight (take_away (p ∷ ps) key) ≤ pairs_weight (p ∷ ps)
-light_take_away-more p ps key true h rest = rw h (omega arith)
-light_take_away-more p ps key false h rest = rw h (omega (arith, rest))
-
-pub light_take_away : (ps : List (Key × Data)) (key : Key) → pairs_weight (take_away ps key) ≤ pairs_weight ps
-light_take_away [] key = omega arith
-light_take_away (p ∷ ps) key = light_take_away-more p ps key (key_eq key p.0) refl (light_take_away ps key)
+pub light_take_away : (key : Key) (ps : List (Key × Data)) → pairs_weight (take_away ps key) ≤ pairs_weight ps
+light_take_away key =
+    by_test (has key) _ (omega arith) (λ p ps h rest. rw h (omega arith)) (λ p ps h rest. rw h (omega (arith, rest)))
 
 pub IsTable-remove : (t : Table) (key : Key) → IsTable t → IsTable (table_remove t key)
 IsTable-remove t key is = record {
-  distinct = distinct_take_away t.pairs key is.distinct;
+  distinct = distinct_take_away key t.pairs is.distinct;
   up_to = All-from_recursion (IsUpTo t.largest) (keys_of (take_away t.pairs key))
-      (all_take_away (IsUpTo t.largest) t.pairs key (recursion_from_All (IsUpTo t.largest) (keys_of t.pairs) is.up_to));
-  light = omega (arith, light_take_away t.pairs key, is.light);
+      (all_take_away (IsUpTo t.largest) key t.pairs (recursion_from_All (IsUpTo t.largest) (keys_of t.pairs) is.up_to));
+  light = omega (arith, light_take_away key t.pairs, is.light);
 }
 
 -- ---- an exchange
-keys_of-swapped-more : (p : Key × Data) (ps : List (Key × Data)) (key : Key) (d : Data) (b : Bool)
-    → key_eq key p.0 ≡ b →
-    keys_of (swapped ps key d) ≡ keys_of ps → keys_of (swapped (p ∷ ps) key d) ≡ keys_of (p ∷ ps)
-keys_of-swapped-more p ps key d true h rest = rw h
-keys_of-swapped-more p ps key d false h rest = rw h (ap (λ ks. p.0 ∷ ks) rest)
-
-keys_of-swapped : (ps : List (Key × Data)) (key : Key) (d : Data) → keys_of (swapped ps key d) ≡ keys_of ps
-keys_of-swapped [] key d = refl
-keys_of-swapped (p ∷ ps) key d = keys_of-swapped-more p ps key d (key_eq key p.0) refl (keys_of-swapped ps key d)
+keys_of-swapped : (key : Key) (d : Data) (ps : List (Key × Data)) → keys_of (swapped ps key d) ≡ keys_of ps
+keys_of-swapped key d =
+    by_test (has key) _ refl (λ p ps h rest. rw h) (λ p ps h rest. rw h (ap (λ ks. p.0 ∷ ks) rest))
 
 pub IsTable-exchange : (t : Table) (key : Key) (d : Data) → IsTable t
     → pairs_weight (swapped t.pairs key d) ≤ weight_limit → IsTable (table_exchange t key d)
 IsTable-exchange t key d is light =
-    let same = sym (keys_of-swapped t.pairs key d) in
+    let same = sym (keys_of-swapped key d t.pairs) in
     record {
       distinct = subst (λ (ks : List Key). IsDistinct key_eq ks) same is.distinct;
       up_to = subst (λ (ks : List Key). All (IsUpTo t.largest) ks) same is.up_to;

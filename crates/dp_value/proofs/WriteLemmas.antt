@@ -20,93 +20,61 @@ use Rattle.dp_value.specs.Table.{find_value, keys_of, put, raised, swapped, tabl
 use Rattle.dp_value.specs.Entry.{entry_at, holder_of, then_data, then_table, within, light, write_result, written}
 use Rattle.dp_value.specs.inner.Writes.{cause_of, written_in}
 use Rattle.dp_value.proofs.KeyLemmas.{key_eq-Decides}
+use Rattle.dp_value.proofs.PairLemmas.{by_test, has}
 
 -- ---- a key that is there
-put-present-more : (p : Key × Data) (ps : List (Key × Data)) (key : Key) (d e : Data) (b : Bool) → key_eq key p.0 ≡ b →
-    (find_value (key_eq key) ps ≡ Some e → put ps key d ≡ swapped ps key d) → find_value (key_eq key) (p ∷ ps) ≡ Some e
-    → put (p ∷ ps) key d ≡ swapped (p ∷ ps) key d
-put-present-more p ps key d e true h rest found = rw h
-put-present-more p ps key d e false h rest found = rw h (ap (λ qs. p ∷ qs) (rest (rw h at found)))
-
-pub put-present : (ps : List (Key × Data)) (key : Key) (d e : Data) → find_value (key_eq key) ps ≡ Some e
+pub put-present : (key : Key) (d e : Data) (ps : List (Key × Data)) → find_value (key_eq key) ps ≡ Some e
     → put ps key d ≡ swapped ps key d
-put-present [] key d e found = cc
-put-present (p ∷ ps) key d e found = put-present-more p ps key d e (key_eq key p.0) refl (put-present ps key d e) found
-
-swapped-same-more : (p : Key × Data) (ps : List (Key × Data)) (key : Key) (d : Data) (b : Bool) → key_eq key p.0 ≡ b →
-    (find_value (key_eq key) ps ≡ Some d → swapped ps key d ≡ ps) → find_value (key_eq key) (p ∷ ps) ≡ Some d
-    → swapped (p ∷ ps) key d ≡ p ∷ ps
-swapped-same-more p ps key d true h rest found =
-    let at : Some p.1 ≡ Some d = rw h at found in
-    rw h (ap (λ (x : Data). let q : Key × Data = (p.0, x) in q ∷ ps) (sym (same_Some p.1 d at)))
-swapped-same-more p ps key d false h rest found = rw h (ap (λ qs. p ∷ qs) (rest (rw h at found)))
+put-present key d e =
+    by_test (has key) _ (λ found. cc) (λ p ps h rest found. rw h)
+    (λ p ps h rest found. rw h (ap (λ qs. p ∷ qs) (rest (rw h at found))))
 
 -- an exchange with the value that is there changes nothing
-pub swapped-same : (ps : List (Key × Data)) (key : Key) (d : Data) → find_value (key_eq key) ps ≡ Some d
+swapped-same : (key : Key) (d : Data) (ps : List (Key × Data)) → find_value (key_eq key) ps ≡ Some d
     → swapped ps key d ≡ ps
-swapped-same [] key d found = refl
-swapped-same (p ∷ ps) key d found = swapped-same-more p ps key d (key_eq key p.0) refl (swapped-same ps key d) found
-
-swapped-swapped-more : (p : Key × Data) (ps : List (Key × Data)) (key : Key) (d e : Data) (b : Bool)
-    → key_eq key p.0 ≡ b →
-    swapped (swapped ps key d) key e ≡ swapped ps key e
-    → swapped (swapped (p ∷ ps) key d) key e ≡ swapped (p ∷ ps) key e
-swapped-swapped-more p ps key d e true h rest = rw (h, h) refl
-swapped-swapped-more p ps key d e false h rest = rw (h, h) (ap (λ qs. p ∷ qs) rest)
-
-swapped-none-more : (p : Key × Data) (ps : List (Key × Data)) (key : Key) (d : Data) (b : Bool) → key_eq key p.0 ≡ b →
-    (find_value (key_eq key) ps ≡ None → swapped ps key d ≡ ps) → find_value (key_eq key) (p ∷ ps) ≡ None
-    → swapped (p ∷ ps) key d ≡ p ∷ ps
-swapped-none-more p ps key d true h rest lacks = let at : Some p.1 ≡ None = rw h at lacks in cc
-swapped-none-more p ps key d false h rest lacks = rw h (ap (λ qs. p ∷ qs) (rest (rw h at lacks)))
+swapped-same key d =
+    by_test (has key) _ (λ found. refl)
+    (λ p ps h rest found. let at : Some p.1 ≡ Some d = rw h at found in
+    rw h (ap (λ (x : Data). let q : Key × Data = (p.0, x) in q ∷ ps) (sym (same_Some p.1 d at))))
+    (λ p ps h rest found. rw h (ap (λ qs. p ∷ qs) (rest (rw h at found))))
 
 -- an exchange under a key that is not there changes nothing
-pub swapped-none : (ps : List (Key × Data)) (key : Key) (d : Data) → find_value (key_eq key) ps ≡ None
+swapped-none : (key : Key) (d : Data) (ps : List (Key × Data)) → find_value (key_eq key) ps ≡ None
     → swapped ps key d ≡ ps
-swapped-none [] key d lacks = refl
-swapped-none (p ∷ ps) key d lacks = swapped-none-more p ps key d (key_eq key p.0) refl (swapped-none ps key d) lacks
+swapped-none key d =
+    by_test (has key) _ (λ lacks. refl)
+    (λ p ps h rest lacks. let at : Some p.1 ≡ None = rw h at lacks in cc)
+    (λ p ps h rest lacks. rw h (ap (λ qs. p ∷ qs) (rest (rw h at lacks))))
 
 pub exchange-none : (t : Table) (key : Key) (d : Data) → value_at t key ≡ None → table_exchange t key d ≡ t
 exchange-none t key d lacks =
-    let same = swapped-none t.pairs key d lacks in λ i. record { pairs = same i; largest = t.largest }
+    let same = swapped-none key d t.pairs lacks in λ i. record { pairs = same i; largest = t.largest }
 
 pub exchange-same : (t : Table) (key : Key) (d : Data) → value_at t key ≡ Some d → table_exchange t key d ≡ t
 exchange-same t key d found =
-    let same = swapped-same t.pairs key d found in λ i. record { pairs = same i; largest = t.largest }
+    let same = swapped-same key d t.pairs found in λ i. record { pairs = same i; largest = t.largest }
 
 -- of two exchanges the second counts
-pub swapped-swapped : (ps : List (Key × Data)) (key : Key) (d e : Data)
+pub swapped-swapped : (key : Key) (d e : Data) (ps : List (Key × Data))
     → swapped (swapped ps key d) key e ≡ swapped ps key e
-swapped-swapped [] key d e = refl
-swapped-swapped (p ∷ ps) key d e = swapped-swapped-more p ps key d e (key_eq key p.0) refl (swapped-swapped ps key d e)
+swapped-swapped key d e =
+    by_test (has key) _ refl (λ p ps h rest. rw (h, h) refl) (λ p ps h rest. rw (h, h) (ap (λ qs. p ∷ qs) rest))
 
 pub exchange-exchange : (t : Table) (key : Key) (d e : Data)
     → table_exchange (table_exchange t key d) key e ≡ table_exchange t key e
 exchange-exchange t key d e =
-    let same = swapped-swapped t.pairs key d e in λ i. record { pairs = same i; largest = t.largest }
+    let same = swapped-swapped key d e t.pairs in λ i. record { pairs = same i; largest = t.largest }
 
 -- ---- weights
-weight-swapped_null-more : (p : Key × Data) (ps : List (Key × Data)) (key : Key) (b : Bool) → key_eq key p.0 ≡ b →
-    pairs_weight (swapped ps key null) ≤ pairs_weight ps
-    → pairs_weight (swapped (p ∷ ps) key null) ≤ pairs_weight (p ∷ ps)
-weight-swapped_null-more p ps key true h rest = rw h (omega arith)
-weight-swapped_null-more p ps key false h rest = rw h (omega (arith, rest))
-
-pub weight-swapped_null : (ps : List (Key × Data)) (key : Key) → pairs_weight (swapped ps key null) ≤ pairs_weight ps
-weight-swapped_null [] key = omega arith
-weight-swapped_null (p ∷ ps) key = weight-swapped_null-more p ps key (key_eq key p.0) refl (weight-swapped_null ps key)
-
-weight-put-more : (p : Key × Data) (ps : List (Key × Data)) (key : Key) (d : Data) (b : Bool) → key_eq key p.0 ≡ b →
-    pairs_weight (put ps key d) ≡ pairs_weight (put ps key null) + weight_of d
-    → pairs_weight (put (p ∷ ps) key d) ≡ pairs_weight (put (p ∷ ps) key null) + weight_of d
-weight-put-more p ps key d true h rest = rw h (omega arith)
-weight-put-more p ps key d false h rest = rw h (omega (arith, rest))
+pub weight-swapped_null : (key : Key) (ps : List (Key × Data)) → pairs_weight (swapped ps key null) ≤ pairs_weight ps
+weight-swapped_null key =
+    by_test (has key) _ (omega arith) (λ p ps h rest. rw h (omega arith)) (λ p ps h rest. rw h (omega (arith, rest)))
 
 -- a value under a key weighs beside all else
-pub weight-put : (ps : List (Key × Data)) (key : Key) (d : Data)
+pub weight-put : (key : Key) (d : Data) (ps : List (Key × Data))
     → pairs_weight (put ps key d) ≡ pairs_weight (put ps key null) + weight_of d
-weight-put [] key d = omega arith
-weight-put (p ∷ ps) key d = weight-put-more p ps key d (key_eq key p.0) refl (weight-put ps key d)
+weight-put key d =
+    by_test (has key) _ (omega arith) (λ p ps h rest. rw h (omega arith)) (λ p ps h rest. rw h (omega (arith, rest)))
 
 -- ---- the largest integer key
 raised-up_to : (largest : Option ℤ) (key : Key) → IsUpTo largest key → raised largest key ≡ largest
@@ -114,26 +82,19 @@ raised-up_to largest (Text bytes) h = refl
 raised-up_to None (Int n) h = absurd h
 raised-up_to (Some m) (Int n) h = let top : int_max m n ≡ m = omega (arith, ints, int_max_is m n) in ap Some top
 
-up_to-present-more : (largest : Option ℤ) (p : Key × Data) (ps : List (Key × Data)) (key : Key) (d : Data) (b : Bool)
-    → key_eq key p.0 ≡ b →
-    (find_value (key_eq key) ps ≡ Some d → AllByRecursion (IsUpTo largest) (keys_of ps) → IsUpTo largest key) →
-    find_value (key_eq key) (p ∷ ps) ≡ Some d → AllByRecursion (IsUpTo largest) (keys_of (p ∷ ps)) → IsUpTo largest key
-up_to-present-more largest p ps key d true h rest found all =
-    subst (λ (k : Key). IsUpTo largest k) (sym ((key_eq-Decides key p.0).0 h)) all.0
-up_to-present-more largest p ps key d false h rest found all = rest (rw h at found) all.1
-
-up_to-present : (largest : Option ℤ) (ps : List (Key × Data)) (key : Key) (d : Data) →
+up_to-present : (largest : Option ℤ) (key : Key) (d : Data) (ps : List (Key × Data)) →
     find_value (key_eq key) ps ≡ Some d → AllByRecursion (IsUpTo largest) (keys_of ps) → IsUpTo largest key
-up_to-present largest [] key d found all = cc
-up_to-present largest (p ∷ ps) key d found all =
-    up_to-present-more largest p ps key d (key_eq key p.0) refl (up_to-present largest ps key d) found all
+up_to-present largest key d =
+    by_test (has key) _ (λ found all. cc)
+    (λ p ps h rest found all. subst (λ (k : Key). IsUpTo largest k) (sym ((key_eq-Decides key p.0).0 h)) all.0)
+    (λ p ps h rest found all. rest (rw h at found) all.1)
 
 -- a write under a key that is there is an exchange
 pub set-present : (t : Table) (key : Key) (d e : Data) → IsTable t → value_at t key ≡ Some e
     → table_set t key d ≡ table_exchange t key d
 set-present t key d e is found =
-    let pairs = put-present t.pairs key d e found in
-    let largest = raised-up_to t.largest key (up_to-present t.largest t.pairs key e found
+    let pairs = put-present key d e t.pairs found in
+    let largest = raised-up_to t.largest key (up_to-present t.largest key e t.pairs found
     (recursion_from_All (IsUpTo t.largest) (keys_of t.pairs) is.up_to)) in
     λ i. record { pairs = pairs i; largest = largest i }
 
@@ -150,7 +111,7 @@ pub within_set : (beside : ℕ) (t : Table) (key : Key) (r : Result Data WriteEr
 within_set beside t key (Err e) = refl
 within_set beside t key (Ok d) =
     let same : beside + pairs_weight (put t.pairs key d) ≡ (beside + pairs_weight (put t.pairs key null)) + weight_of d
-    = omega (arith, weight-put t.pairs key d) in
+    = omega (arith, weight-put key d t.pairs) in
     ap (λ (n : ℕ). cond (nat_le n weight_limit) (Ok (data_of_table (table_set t key d))) (Err TooHeavy)) same
     ∙ then_cond (nat_le ((beside + pairs_weight (put t.pairs key null)) + weight_of d) weight_limit) d
     (λ x. data_of_table (table_set t key x))
@@ -219,15 +180,6 @@ pub written-entered : (empty : Bool) (keys : List (Option Key)) (push : Bool) (n
 written-entered empty keys push new d t enters is =
     written-holder empty keys push new d enters
     ∙ ap (λ (r : Result Table WriteError). then_table r (written_in keys push new)) is
-
--- one without keys that does not push puts the value in the place of the other
-pub written-whole : (empty : Bool) (keys : List (Option Key)) (push : Bool) (new d : Data)
-    → empty ≡ (length keys == 0) → empty ≡ true → push ≡ false → written keys push new d ≡ Ok new
-written-whole empty [] false new d is none whole = refl
-written-whole empty [] true new d is none whole = absurd (cc)
-written-whole empty (key ∷ keys) push new d is none whole =
-    let some : (length (key ∷ keys) == 0) ≡ false = grind (arith, nat_tests) in
-    absurd (false≢true (sym some ∙ sym is ∙ none))
 
 pub written-refused : (empty : Bool) (keys : List (Option Key)) (push : Bool) (new d : Data) (e : WriteError)
     → Enters empty keys push → holder_of d ≡ Err e →
@@ -350,7 +302,7 @@ module _ {keys : List (Option Key)} {key : Key} {rest : List (Option Key)} {push
   child_light (Ok d) h =
       let all : pairs_weight (put t.pairs key d) ≤ weight_limit = set_light d h in
       let weighs : pairs_weight (put t.pairs key d) ≡ pairs_weight (put t.pairs key null) + weight_of d =
-      weight-put t.pairs key d in
+      weight-put key d t.pairs in
       let test : nat_le (weight_of d) weight_limit ≡ true = grind (arith, nat_tests) in
       ap (λ (b : Bool). let r : Result Data WriteError = cond b (Ok d) (Err TooHeavy) in is_ok r) test
   child_light (Err e) h = h
@@ -381,12 +333,12 @@ module _ {keys : List (Option Key)} {key : Key} {rest : List (Option Key)} {push
         → OnOk r (light (written rest push new child) ≡ Ok d) → OnErr r (d ≡ child) →
         pairs_weight (swapped (swapped t.pairs key null) key d) ≤ weight_limit
     under-back (Ok x) d done err =
-        let same : swapped (swapped t.pairs key null) key d ≡ put t.pairs key d = swapped-swapped t.pairs key null d
-        ∙ sym (put-present t.pairs key d child found) in
+        let same : swapped (swapped t.pairs key null) key d ≡ put t.pairs key d = swapped-swapped key null d t.pairs
+        ∙ sym (put-present key d child t.pairs found) in
         omega (arith, ap pairs_weight same, under-light d done)
     under-back (Err e) d done err =
         let same : swapped (swapped t.pairs key null) key d ≡ t.pairs =
-        swapped-swapped t.pairs key null d ∙ ap (swapped t.pairs key) err ∙ swapped-same t.pairs key child found in
+        swapped-swapped key null d t.pairs ∙ ap (swapped t.pairs key) err ∙ swapped-same key child t.pairs found in
         omega (arith, ap pairs_weight same, table.light)
 
     pub under-ok : {X E : Type 0} (r : Result X E) (d : Data) (after : Table) → after ≡ table_exchange t key d

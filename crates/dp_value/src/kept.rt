@@ -20,6 +20,12 @@ use indexmap::IndexSet;
 use std::alloc::Global;
 use std::cmp::Ordering;
 
+/// What one row more, and one removed row more, moves the key that stands in for one that was removed: primes, so that
+/// hardly any two of these keys are the same where a few of each change together.
+const ROWS_APART: u64 = 1_000_003;
+
+const GONE_APART: u64 = 7919;
+
 /// Keys: those that rise in a vector, others in a set.
 #[derive(Debug, Drop)]
 pub(crate) enum Kept {
@@ -147,16 +153,15 @@ impl Kept {
 
     /// Whether a key that is not among those that are left can stand behind all rows. Another key takes its row in a
     /// set, where it is removed.
-    pub(crate) fn takes(&mut self, start: usize, gone: usize, key: &Key) -> Result<bool, Memory>
+    pub(crate) fn takes(&mut self, start: usize, gone: usize, key: &Key) -> bool
         requires { AreKeys start gone (is_rising self.old) (kept_keys self.old) }
         ensures left { left start gone (kept_keys self.new) ≡ left start gone (kept_keys self.old) }
         ensures same_length { length (kept_keys self.new) ≡ length (kept_keys self.old) }
         ensures rises { is_rising self.new ≡ is_rising self.old }
-        ensures last { IfOk result (λ is. IsTrue is → GoesLast start gone (is_rising self.new) (kept_keys self.new)
-            key.now) }
+        ensures last { IsTrue result → GoesLast start gone (is_rising self.new) (kept_keys self.new) key.now }
     {
         match self {
-            Kept::Rising(keys) => Ok(goes_on(keys.as_slice(), start, gone, key)),
+            Kept::Rising(keys) => goes_on(keys.as_slice(), start, gone, key),
             Kept::Indexed(keys) => frees(keys, start, gone, key),
         }
     }
@@ -271,28 +276,33 @@ fn indexed_row(keys: &IndexSet<Key>, key: &Key) -> Option<usize>
 }
 
 /// Whether a set lacks a key, once another one took its row where that is removed.
-fn frees(keys: &mut IndexSet<Key>, start: usize, gone: usize, key: &Key) -> Result<bool, Memory>
+fn frees(keys: &mut IndexSet<Key>, start: usize, gone: usize, key: &Key) -> bool
     requires { start + gone ≤ length keys.old.keys }
     ensures left { left start gone keys.new.keys ≡ left start gone keys.old.keys }
     ensures same_length { length keys.new.keys ≡ length keys.old.keys }
-    ensures lacks { IfOk result (λ is. IsTrue is → IsAbsent (key_eq key.now) keys.new.keys) }
+    ensures lacks { IsTrue result → IsAbsent (key_eq key.now) keys.new.keys }
 {
     let Some(row) = indexed_row(keys, key) else {
-        return Ok(true);
+        return true;
     };
     let rows = keys.len();
-    let other = spare(rows, row);
+    let other = spare(rows, gone, row);
     if row < start || start + gone <= row || !lacks(keys, &other) {
-        return Ok(false);
+        return false;
     }
-    put_in(keys, other)?;
+    let Ok(()) = put_in(keys, other) else {
+        return false;
+    };
     let _ = keys.swap_remove_index(row);
-    Ok(lacks(keys, key))
+    lacks(keys, key)
 }
 
-/// A key that hardly any program uses, another one for each number of rows and each row.
-fn spare(rows: usize, row: usize) -> Key {
-    let n = (rows as u64).wrapping_shl(32).wrapping_add(row as u64);
+/// A key that hardly any program uses, and hardly ever one that was made for other numbers of rows and removed rows.
+fn spare(rows: usize, gone: usize, row: usize) -> Key {
+    let n = (rows as u64)
+        .wrapping_mul(ROWS_APART)
+        .wrapping_add((gone as u64).wrapping_mul(GONE_APART))
+        .wrapping_add(row as u64);
     Key::Int(i64::MIN.wrapping_add_unsigned(n))
 }
 

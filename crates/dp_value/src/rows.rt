@@ -90,7 +90,7 @@ fn make_way(
     ensures rows { AreRows start.new gone.new (is_rising kept.new) (kept_keys kept.new) values.new.items }
     ensures way { OnOk result (GoesLast start.new gone.new (is_rising kept.new) (kept_keys kept.new) key.now) }
 {
-    if kept.takes(*start, *gone, key)? {
+    if kept.takes(*start, *gone, key) {
         return Ok(());
     }
     clear_rows(kept, values, start, gone);

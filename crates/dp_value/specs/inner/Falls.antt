@@ -30,20 +30,28 @@ all_le_depth (k ∷ ks) (v ∷ vs) same =
     all_le_depth ks vs (omega arith) in
     omega (arith, deep_le v)
 
+null_behind : (s t g h : ℕ) (v : Value) (vs : List Value) → AreNull t h (v ∷ vs) → t ≤ suc s
+    → suc (s + g) ≡ t + h → AreNull s g vs
+null_behind s t g h v vs nulls from to = record {
+  within = omega arith;
+  null = λ row after before. nulls.null (suc row) (omega arith) (omega arith);
+}
+
 -- a row that is removed nests least of all
 pub most_le_depth : (start gone : ℕ) (ks : List Key) (vs : List Value) → length vs ≡ length ks
     → AreNull start gone vs → max (most deep-Value vs) 0 ≤ most_of (left_in start gone ks vs)
 most_le_depth zero zero ks vs same nulls = all_le_depth ks vs same
-most_le_depth zero (suc n) ks [] same nulls = absurd nulls
-most_le_depth zero (suc n) [] (v ∷ vs) same nulls = omega arith
+most_le_depth start gone ks [] same nulls = omega arith
+most_le_depth start gone [] (v ∷ vs) same nulls = omega arith
 most_le_depth zero (suc n) (k ∷ ks) (v ∷ vs) same nulls =
     let rest : max (most deep-Value vs) 0 ≤ most_of (left_in zero n ks vs) =
-    most_le_depth zero n ks vs (omega arith) nulls.1 in
-    let none : deep-Value v ≡ deep-Value Null = ap deep-Value nulls.0 in
+    most_le_depth zero n ks vs (omega arith)
+    (null_behind zero zero n (suc n) v vs nulls (omega arith) (omega arith)) in
+    let none : deep-Value v ≡ deep-Value Null =
+    ap deep-Value (nulls.null zero (omega arith) (omega arith)) in
     omega (arith, deep_le Null, none)
-most_le_depth (suc n) gone ks [] same nulls = absurd nulls
-most_le_depth (suc n) gone [] (v ∷ vs) same nulls = omega arith
 most_le_depth (suc n) gone (k ∷ ks) (v ∷ vs) same nulls =
     let rest : max (most deep-Value vs) 0 ≤ most_of (left_in n gone ks vs) =
-    most_le_depth n gone ks vs (omega arith) nulls in
+    most_le_depth n gone ks vs (omega arith)
+    (null_behind n (suc n) gone gone v vs nulls (omega arith) (omega arith)) in
     omega (arith, deep_le v)

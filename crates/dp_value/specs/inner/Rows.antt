@@ -1,6 +1,6 @@
 -- The rows of an array, of which some are removed already: so many from a row on, whose values
 -- are null.
-use Rattle.std.specs.Prelude.{◌≡◌, ◌+◌, ◌≤◌, ℕ, zero, suc, Bool, true, false, List, [], ◌∷◌, ◌++◌, length, ⊤}
+use Rattle.std.specs.Prelude.{◌≡◌, ◌+◌, ◌<◌, ◌≤◌, ℕ, Bool, true, false, List, [], ◌∷◌, ◌++◌, get_or, length, ⊤}
 use Rattle.dp_value.specs.declared.key.Key.{Key}
 use Rattle.dp_value.specs.declared.value.Value.{Value}
 use Rattle.dp_value.specs.declared.value.Value.TheVariants.{Null}
@@ -12,12 +12,9 @@ use Rattle.dp_value.specs.inner.Left.{left}
 use Rattle.dp_value.specs.inner.Rising.{IsRising}
 
 -- so many rows from a row on are there, and they are null
-abbrev pub AreNull : ℕ → ℕ → List Value → Type 0
-AreNull zero zero vs = ⊤
-AreNull zero (suc gone) [] = ⊥
-AreNull zero (suc gone) (v ∷ vs) = (v ≡ Null) × AreNull zero gone vs
-AreNull (suc start) gone [] = ⊥
-AreNull (suc start) gone (v ∷ vs) = AreNull start gone vs
+pub record AreNull (start gone : ℕ) (vs : List Value) : Type 0 where
+  pub within : start + gone ≤ length vs
+  pub null : (row : ℕ) → start ≤ row → row < start + gone → get_or vs row Null ≡ Null
 
 -- the pairs of the keys and the values that are left
 abbrev pub left_in : ℕ → ℕ → List Key → List Value → List (Key × Data)

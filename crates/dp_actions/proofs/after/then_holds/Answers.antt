@@ -1,9 +1,8 @@
-use Rattle.std.proofs.Common.{refl}
-use Rattle.dp_actions.proofs.AtOnceLaws.{gives}
+use Rattle.dp_actions.proofs.AtOnceLaws.{gives, then_err, then_ok}
 use Rattle.dp_actions.proofs.after.then_holds.Goals as goal
 
-pub returns-in-Ok : goal.returns-in-Ok
-returns-in-Ok c = λ s. record { done = rw (c.in-Ok.is, c.truthy-holds.ensures) gives }
+pub returns-in_err-value : goal.returns-in_err-value
+returns-in_err-value c = λ s. then_err c.in_err-value.was c.from_residual.ensures.1
 
-pub returns-in-Err : goal.returns-in-Err
-returns-in-Err c = λ s. record { done = rw c.in-Err.is (refl, refl) }
+pub returns : goal.returns
+returns c = λ s. then_ok c.in_ok-value.was (rw c.truthy.ensures gives)

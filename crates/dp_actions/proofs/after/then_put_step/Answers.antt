@@ -1,9 +1,8 @@
-use Rattle.std.proofs.Common.{refl}
+use Rattle.dp_actions.proofs.AtOnceLaws.{then_err, then_ok}
 use Rattle.dp_actions.proofs.after.then_put_step.Goals as goal
 
-pub returns-in-Ok : goal.returns-in-Ok
-returns-in-Ok c =
-    λ order. record { done = rw c.in-Ok.is ((rw c.as_slice.ensures at c.put_step-answer.ensures) order) }
+pub returns-in_err-indices : goal.returns-in_err-indices
+returns-in_err-indices c = λ order. then_err c.in_err-indices.was c.from_residual.ensures.1
 
-pub returns-in-Err : goal.returns-in-Err
-returns-in-Err c = λ order. record { done = rw c.in-Err.is (refl, refl) }
+pub returns : goal.returns
+returns c = λ order. then_ok c.in_ok-indices.was ((rw c.as_slice.ensures at c.put_step.ensures) order)

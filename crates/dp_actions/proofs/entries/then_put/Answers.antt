@@ -1,8 +1,8 @@
-use Rattle.std.proofs.Common.{refl}
+use Rattle.dp_actions.proofs.AtOnceLaws.{then_err, then_ok}
 use Rattle.dp_actions.proofs.entries.then_put.Goals as goal
 
-pub returns-in-Ok : goal.returns-in-Ok
-returns-in-Ok c = record { done = rw c.in-Ok.is c.put.ensures }
+pub returns-in_err-value : goal.returns-in_err-value
+returns-in_err-value c = then_err c.in_err-value.was c.from_residual.ensures.1
 
-pub returns-in-Err : goal.returns-in-Err
-returns-in-Err c = record { done = rw c.in-Err.is (refl, refl) }
+pub returns : goal.returns
+returns c = then_ok c.in_ok-value.was c.put.ensures

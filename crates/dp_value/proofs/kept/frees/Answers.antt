@@ -12,8 +12,8 @@ freed c =
     left-freed c.args.start c.args.gone c.in-Some.row c.args.keys.now.keys c.swap_remove_index.new.self.keys
     c.spare-other.result c.swap_remove_index.result (omega (arith, c.if-row-start.false))
     (omega (arith, c.if-start-gone.false)) c.requires
-    (rw c.in_ok-put_in.ensures.ok at c.swap_remove_index.ensures.key)
-    (rw c.in_ok-put_in.ensures.ok at c.swap_remove_index.ensures.keys)
+    (rw c.in-Ok.ensures.ok at c.swap_remove_index.ensures.key)
+    (rw c.in-Ok.ensures.ok at c.swap_remove_index.ensures.keys)
 
 pub returns-clause-left : goal.returns-clause-left
 returns-clause-left c = (freed c).0

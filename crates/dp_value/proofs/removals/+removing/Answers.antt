@@ -41,7 +41,7 @@ take_row-returns-then-is_empty-clause-ok t c =
 
 pub take_row-exchange-requires : goal.take_row-exchange-requires
 take_row-exchange-requires t c =
-    λ is. omega (arith, weight-swapped_null c.args.columns.now.pairs c.args.key.now, is.light)
+    λ is. omega (arith, weight-swapped_null c.args.key.now c.args.columns.now.pairs, is.light)
 
 pub take_row-returns-in_default-clause-ok : goal.take_row-returns-in_default-clause-ok
 take_row-returns-in_default-clause-ok t c =

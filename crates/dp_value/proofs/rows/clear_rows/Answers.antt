@@ -1,7 +1,7 @@
 use Rattle.std.proofs.Common.{arith}
 use Rattle.dp_value.specs.inner.Kept.{kept_keys}
 use Rattle.dp_value.proofs.LeftLemmas.{left-range}
-use Rattle.dp_value.proofs.RowLemmas.{rows-length}
+use Rattle.dp_value.proofs.RowLemmas.{rows-length, AreNull-none}
 use Rattle.dp_value.proofs.rows.clear_rows.Goals as goal
 
 pub returns-clause-keys : goal.returns-clause-keys
@@ -24,6 +24,6 @@ returns-clause-rows c =
       ← left-range s g c.args.values.now.items,
     ) record {
       keys = record { within = omega arith; rises = c.requires.keys.rises };
-      nulls = tt;
+      nulls = AreNull-none 0 _ (omega arith);
       same_length = rows-length c.requires;
     }

@@ -1,12 +1,11 @@
 use Rattle.std.proofs.Common.{List, get_or, ap, ◌∙◌}
 use Rattle.dp_value.specs.declared.value.Value.{Value}
 use Rattle.dp_value.specs.inner.Left.{left}
-use Rattle.dp_value.proofs.RowLemmas.{nulls_within}
 use Rattle.dp_value.proofs.rows.nth_value.Goals as goal
 
 pub nth-requires-clause-within : goal.nth-requires-clause-within
 nth-requires-clause-within c =
-    rw c.as_slice.ensures.value (nulls_within c.args.start c.args.gone c.args.values.now.items c.requires.nulls)
+    rw c.as_slice.ensures.value c.requires.nulls.within
 
 pub nth-requires-clause-there : goal.nth-requires-clause-there
 nth-requires-clause-there c = rw c.as_slice.ensures.value c.requires.there

@@ -2,7 +2,7 @@ use Rattle.std.proofs.Common.{◌∷◌, []}
 use Rattle.std.proofs.lemmas.Result.{err_from_is_err_and}
 use Rattle.dp_value.specs.inner.Kept.{kept_keys}
 use Rattle.dp_value.proofs.LeftLemmas.{left-push}
-use Rattle.dp_value.proofs.RowLemmas.{nulls_within, rows-push}
+use Rattle.dp_value.proofs.RowLemmas.{rows-push}
 use Rattle.dp_value.proofs.rows.push_row.Goals as goal
 
 pub returns-in_err-reserve-clause-err : goal.returns-in_err-reserve-clause-err
@@ -34,7 +34,7 @@ returns-clause-ok c =
       c.push_reserved.ensures.items,
       c.reserve.ensures.items,
       left-push s g (kept_keys c.args.kept.now) (c.args.key ∷ []) c.requires.rows.keys.within,
-      left-push s g vs (c.args.value ∷ []) (nulls_within s g vs c.requires.rows.nulls),
+      left-push s g vs (c.args.value ∷ []) (c.requires.rows.nulls.within),
     )
 
 pub returns-clause-rows : goal.returns-clause-rows

@@ -4,19 +4,19 @@ use Rattle.dp_value.specs.declared.value.Value.{Value}
 use Rattle.dp_value.specs.inner.Left.{left, row_at}
 use Rattle.dp_value.specs.inner.Rows.{AreNull}
 use Rattle.dp_value.proofs.LeftLemmas.{length-left, left-read, left-set, row-within}
-use Rattle.dp_value.proofs.RowLemmas.{nulls_within, AreNull-set}
+use Rattle.dp_value.proofs.RowLemmas.{AreNull-set}
 use Rattle.dp_value.proofs.rows.replace_nth.Goals as goal
 
 pub row-found-requires : goal.row-found-requires
 row-found-requires c =
     let vs = c.args.values.now.items in
-    let within = nulls_within c.args.start c.args.gone vs c.requires.nulls in
+    let within = c.requires.nulls.within in
     omega (arith, within, length-left c.args.start c.args.gone vs within, c.requires.there, c.args.values.now.ok.0)
 
 pub index_mut-requires : goal.index_mut-requires
 index_mut-requires c =
     let vs = c.args.values.now.items in
-    let within = nulls_within c.args.start c.args.gone vs c.requires.nulls in
+    let within = c.requires.nulls.within in
     omega (
       arith,
       c.row-found.ensures,

@@ -29,7 +29,7 @@ write-write_into-requires t c =
 
 pub write_row-exchange-requires : goal.write_row-exchange-requires
 write_row-exchange-requires t c =
-    λ is. omega (arith, weight-swapped_null c.args.columns.now.pairs c.in-Some-key.key, is.light)
+    λ is. omega (arith, weight-swapped_null c.in-Some-key.key c.args.columns.now.pairs, is.light)
 
 -- what the steps to a first key tell of the value under it
 under : {keys rest : List (Option Key)} {o : Option Key} (key : Key) (push : Bool) (new : Data) (t : Table)

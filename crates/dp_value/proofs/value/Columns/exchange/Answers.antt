@@ -12,9 +12,10 @@ use Rattle.dp_value.specs.inner.Left.{left}
 use Rattle.dp_value.specs.inner.Rows.{left_in}
 use Rattle.dp_value.specs.Table.{value_at, swapped, table_exchange, weight_limit, IsTable}
 use Rattle.dp_value.specs.Value.{data_of, pairs_in}
-use Rattle.dp_value.proofs.PairLemmas.{absent-find_value, first-find_value, swapped-absent, swapped-first, weight-swapped-first, weight-at}
+use Rattle.dp_value.proofs.PairLemmas.{absent-find_value, first-find_value, swapped-first, weight-swapped-first, weight-at}
 use Rattle.dp_value.proofs.ArrayLemmas.{data_length, lengths_left, read_value, same_left, there}
 use Rattle.dp_value.proofs.TableLemmas.{IsTable-exchange}
+use Rattle.dp_value.proofs.WriteLemmas.{exchange-none}
 use Rattle.dp_value.proofs.value.Columns.exchange.Goals as goal
 
 pub returns-in_err-at-clause-value : goal.returns-in_err-at-clause-value
@@ -26,12 +27,10 @@ returns-in_err-at-clause-value c =
 
 pub returns-in_err-at-clause-exchanged : goal.returns-in_err-at-clause-exchanged
 returns-in_err-at-clause-exchanged c =
-    let d = data_of c.args.value in
-    let absent = swapped-absent c.args.key.now (keys_left c.self.inside)
-    (map data_of (values_left c.self.inside)) d c.in_err-at.ensures in
-    let stays : table_of c.self.inside ≡ table_exchange (table_of c.self.inside) c.args.key.now d = λ i. record
-    { pairs = sym absent i; largest = c.self.inside.largest } in
-    sym c.self.view_is ∙ stays ∙ ap (λ (t : Table). table_exchange t c.args.key.now d) c.self.view_is
+    sym (exchange-none _ c.args.key.now (data_of c.args.value)
+    (sym (ap (λ (t : Table). value_at t c.args.key.now) c.self.view_is)
+    ∙ absent-find_value (key_eq c.args.key.now) (keys_left c.self.inside)
+    (map data_of (values_left c.self.inside)) c.in_err-at.ensures))
 
 -- the rows with a value in one that is left are the exchanged pairs
 exchanged : (ks : List Key) (vs ws : List Value) (i : ℕ) (key : Key) (v : Value) → IsFirst (key_eq key) ks i
@@ -64,7 +63,8 @@ overflow_add-self c =
     let row = read_value c.self.inside c.self.invariant (key_eq c.args.key.now) c.in_ok-at.at c.in_ok-at.ensures
     c.replace_nth-old.result c.replace_nth-old.ensures.was in
     let weighs = weight-swapped-first c.args.key.now (keys_left c.self.inside) (map data_of (values_left c.self.inside))
-    c.in_ok-at.at (data_of c.replace_nth-old.result) d c.in_ok-at.ensures row in
+    c.in_ok-at.at (data_of c.replace_nth-old.result) d c.in_ok-at.ensures
+    (same_left c.self.inside c.self.invariant) row in
     let seen = ap (λ (t : Table). pairs_weight (swapped t.pairs c.args.key.now d)) c.self.view_is in
     let allowed = c.requires (subst (λ (t : Table). IsTable t) c.self.view_is c.self.invariant.table) in
     let light : pairs_weight (swapped (table_of c.self.inside).pairs c.args.key.now d) ≤ weight_limit =
@@ -81,7 +81,8 @@ invariant_of-self c =
     (same_left c.self.inside c.self.invariant) row in
     let weighs = weight-swapped-first c.args.key.now (keys_left c.self.inside)
     (map data_of (values_left c.self.inside)) c.in_ok-at.at
-    (data_of c.replace_nth-old.result) d c.in_ok-at.ensures row in
+    (data_of c.replace_nth-old.result) d c.in_ok-at.ensures
+    (same_left c.self.inside c.self.invariant) row in
     let pairs = exchanged (keys_left c.self.inside) (values_left c.self.inside)
     (left c.self.inside.start c.self.inside.gone c.replace_nth-old.new.values.items) c.in_ok-at.at c.args.key.now
     c.args.value c.in_ok-at.ensures (lengths_left c.self.inside c.self.invariant) c.replace_nth-old.ensures.left in

@@ -11,8 +11,9 @@ use Rattle.dp_value.specs.inner.Left.{left}
 use Rattle.dp_value.specs.inner.Rows.{left_in}
 use Rattle.dp_value.specs.Table.{value_at, take_away, table_remove, IsTable}
 use Rattle.dp_value.specs.Value.{data_of, pairs_in}
-use Rattle.dp_value.proofs.PairLemmas.{absent-find_value, first-find_value, take_away-absent, take_away-first, map-remove}
+use Rattle.dp_value.proofs.PairLemmas.{absent-find_value, first-find_value, take_away-first, map-remove}
 use Rattle.dp_value.proofs.ArrayLemmas.{same_left}
+use Rattle.dp_value.proofs.RemovalLemmas.{nothing-removed}
 use Rattle.dp_value.proofs.RowLemmas.{first-within}
 use Rattle.dp_value.proofs.TableLemmas.{IsTable-remove}
 use Rattle.dp_value.proofs.value.Columns.remove.Goals as goal
@@ -25,11 +26,10 @@ returns-in_default-clause-found c =
 
 pub returns-in_default-clause-removed : goal.returns-in_default-clause-removed
 returns-in_default-clause-removed c =
-    let absent = take_away-absent c.args.key.now (keys_left c.self.inside)
-    (map data_of (values_left c.self.inside)) c.in_default.ensures in
-    let stays : table_of c.self.inside ≡ table_remove (table_of c.self.inside) c.args.key.now = λ i. record
-    { pairs = sym absent i; largest = c.self.inside.largest } in
-    sym c.self.view_is ∙ stays ∙ ap (λ (t : Table). table_remove t c.args.key.now) c.self.view_is
+    nothing-removed _ c.args.key.now
+    (sym (ap (λ (t : Table). value_at t c.args.key.now) c.self.view_is)
+    ∙ absent-find_value (key_eq c.args.key.now) (keys_left c.self.inside)
+    (map data_of (values_left c.self.inside)) c.in_default.ensures)
 
 pub take_out-weight-requires-clause-there : goal.take_out-weight-requires-clause-there
 take_out-weight-requires-clause-there c =

@@ -7,7 +7,7 @@ pub returns : goal.returns
 returns c =
     omega (
       arith,
-      weight-put c.args.self.now.pairs c.args.key.now (data_of c.args.value.now),
+      weight-put c.args.key.now (data_of c.args.value.now) c.args.self.now.pairs,
       c.weight-added.ensures,
       c.entry-others.ensures.beside,
       c.saturating_add.ensures,
