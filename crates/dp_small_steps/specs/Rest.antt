@@ -201,8 +201,6 @@ hand_rest setting (hand.Turn loop left) k s = turns_of setting loop left s >>= t
 hand_rest setting (hand.DoTurn loop left) k s = do_turns_of setting loop left s >>= to_signal k
 hand_rest setting (hand.EachTurn loop subject at) k s =
     each_from setting loop subject at s >>= to_signal k
-hand_rest setting (hand.Bind loop subject at) k s =
-    each_turn setting loop (drop at (entries subject)) s >>= to_signal k
 hand_rest setting (hand.Left g) k s = left_call g s >>= to_value k
 hand_rest setting (hand.LeftFile g) k s = left_file g s >>= to_value k
 hand_rest setting (hand.Over outcome) k s = Over outcome s

@@ -1,6 +1,6 @@
 //! What a statement that waited does with what it is given.
 
-ghost use Rattle.std.specs.Prelude.{◌≡◌, IsOk, None, Some, drop, slice_get};
+ghost use Rattle.std.specs.Prelude.{◌≡◌, IsOk, None, Some, slice_get};
 ghost use Rattle.dp_state.specs.Places.{keys_of_indices, unset as without};
 ghost use Rattle.dp_value.specs.declared.key.Key.{Key as EntryKey};
 ghost use Rattle.dp_value.specs.Data.{Data};
@@ -9,15 +9,14 @@ ghost use Rattle.dp_actions.specs.Loops.{bind as bind_run, entries};
 ghost use Rattle.dp_actions.specs.Run.{Done, and_then, taken};
 ghost use Rattle.dp_actions.specs.Setting.{Setting};
 ghost use Rattle.dp_actions.specs.Effects.{with_globals};
-ghost use Rattle.dp_small_steps.specs.Rest.{after_rest, each_turn, next_rest, next_to, unset_after, after_values_rest};
-ghost use Rattle.dp_small_steps.specs.Parts.{to_signal};
+ghost use Rattle.dp_small_steps.specs.Rest.{after_rest, next_rest, next_to, unset_after, after_values_rest};
 ghost use Rattle.dp_small_steps.specs.declared.work.AfterValue.TheVariants as any_after;
 ghost use Rattle.dp_small_steps.specs.Leads.{Leads};
 
-use crate::loops::{do_tested, entry_count, test_holds, tested};
+use crate::loops::{do_tested, test_holds, tested};
 use crate::next::{alone, signal};
 use crate::statements::branch;
-use crate::work::{AfterValue, AfterValues, EachTurns, ForSignal, Hand, Next, Work};
+use crate::work::{AfterValue, AfterValues, Hand, Next};
 use dp_actions::{
     Halt, Signal, bind_all, bind_entry, define_constant, exit_value, holds, print_value,
     unset_place,
@@ -156,34 +155,6 @@ pub(crate) fn global<'p>(names: &[Bytes], state: &mut State) -> Result<Next<'p>,
     match bind_all(names, state) {
         Ok(()) => Ok(signal(Signal::Next)),
         Err(why) => Err(why),
-    }
-}
-
-/// The entry at a position is bound, and then comes its turn.
-pub(crate) fn bind<'p>(
-    turns: EachTurns<'p>,
-    subject: Value,
-    at: usize,
-    state: &mut State,
-) -> Result<Next<'p>, Halt>
-    ensures { (setting : Setting)
-        → Leads (next_rest setting) (λ k. and_then (each_turn setting turns.entry (drop at (entries subject)) state.old)
-        (to_signal k)) result state.new }
-{
-    if at >= entry_count(&subject) {
-        drop(subject);
-        Ok(signal(Signal::Next))
-    } else {
-        match bind_at(turns.binding, &subject, at, state) {
-            Ok(()) => Ok(Next {
-                hand: Hand::Run(turns.body.as_ref()),
-                waits: Some(Work::ForSignal(ForSignal::EachBody(turns, subject, at + 1, false))),
-            }),
-            Err(why) => {
-                drop(subject);
-                Err(why)
-            }
-        }
     }
 }
 

@@ -2,7 +2,8 @@
 
 ghost use Rattle.std.specs.Prelude.{◌≡◌};
 ghost use Rattle.dp_state.specs.declared.state.State.{State as AnyState};
-ghost use Rattle.dp_actions.specs.Expressions.{evaluation, expression_run};
+ghost use Rattle.dp_actions.specs.Expressions.{evaluation, evaluations, expression_run};
+ghost use Rattle.dp_actions.specs.Places.{assigned_under};
 ghost use Rattle.dp_actions.specs.Run.{and_then};
 ghost use Rattle.dp_actions.specs.Setting.{Setting};
 ghost use Rattle.dp_small_steps.specs.Parts.{Follows, to_value};
@@ -13,7 +14,7 @@ use crate::next::{alone, give, given, values_first};
 use crate::work::{ForPart, ForValue, ForValues, Hand, Next, Work};
 use dp_actions::{Halt, Reading, constant_value, text_value, variable_value};
 use dp_state::State;
-use dp_tree::{Boxed, Expression};
+use dp_tree::{Boxed, Expression, Place};
 use dp_value::{Items, PhpArray, Value};
 use std::alloc::Global;
 
@@ -98,16 +99,8 @@ fn begin_change<'p>(alloc: Global, e: &'p Expression) -> Next<'p>
             &place.indices,
             Work::ForValues(ForValues::Step(*op, *order, &place.name)),
         ),
-        Expression::Assign(place, right) => values_first(
-            alloc,
-            &place.indices,
-            Work::ForValues(ForValues::Assign(&place.name, false, right)),
-        ),
-        Expression::Push(place, right) => values_first(
-            alloc,
-            &place.indices,
-            Work::ForValues(ForValues::Assign(&place.name, true, right)),
-        ),
+        Expression::Assign(place, right) => begin_assign(alloc, place, right, false),
+        Expression::Push(place, right) => begin_assign(alloc, place, right, true),
         Expression::Compound(op, place, right) => values_first(
             alloc,
             &place.indices,
@@ -119,5 +112,30 @@ fn begin_change<'p>(alloc: Global, e: &'p Expression) -> Next<'p>
             Work::ForValues(ForValues::CoalesceAssign(&place.name, right)),
         ),
         other => alone(Hand::Evaluate(other)),
+    }
+}
+
+/// An assignment, by its right side where its place has no indices.
+fn begin_assign<'p>(
+    alloc: Global,
+    place: &'p Place,
+    right: &'p Boxed<Expression>,
+    push: bool,
+) -> Next<'p>
+    ensures { (setting : Setting) (k : Follows) (s : AnyState)
+        → next_rest setting result k s ≡ and_then (evaluations place.now.indices setting s)
+        (λ indices t. and_then (assigned_under push place.now.name (evaluation right.now) indices setting t)
+        (to_value k)) }
+{
+    let name = &place.name;
+    if place.indices.as_slice().is_empty() {
+        let none = Items::of(Vec::new(alloc));
+        Next {
+            hand: Hand::Evaluate(right.as_ref()),
+            waits: Some(Work::ForValue(ForValue::Assign(name, none, push))),
+        }
+    } else {
+        let work = Work::ForValues(ForValues::Assign(name, push, right));
+        values_first(alloc, &place.indices, work)
     }
 }

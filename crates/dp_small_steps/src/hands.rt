@@ -10,13 +10,13 @@ ghost use Rattle.dp_small_steps.specs.Leads.{Goes, Leads};
 ghost use Rattle.dp_small_steps.specs.Parts.{Follows, to_value};
 ghost use Rattle.dp_small_steps.specs.Rest.{hand_rest, next_rest};
 
-use crate::after::{bind, global};
+use crate::after::global;
 use crate::calls::begin_call;
 use crate::expressions::{begin_expression, find};
 use crate::lists::{isset, items, links, under, values};
 use crate::loops::{do_turn, each_turn, turn};
 use crate::next::{alone, unplaced};
-use crate::statements::{constants, echo, unset};
+use crate::statements::{constants, unset};
 use crate::work::{Hand, Next, Small, Work};
 use dp_actions::Halt;
 use dp_state::State;
@@ -77,14 +77,12 @@ fn first_of_statement<'p>(
     ensures { (setting : Setting) → Goes setting (λ k. hand_rest setting hand.entry k state.old) result state.new }
 {
     match hand {
-        Hand::Echo(all, at) => Ok(unplaced(echo(all, at))),
         Hand::Global(names) => moved(global(names, state)),
         Hand::Unset(rest) => Ok(unplaced(unset(alloc, rest))),
         Hand::Constants(all, at) => Ok(unplaced(constants(all, at))),
         Hand::Turn(turns, left) => Ok(turn(alloc, turns, left)),
         Hand::DoTurn(turns, left) => Ok(unplaced(do_turn(turns, left))),
         Hand::EachTurn(turns, subject, at) => Ok(each_turn(turns, subject, at)),
-        Hand::Bind(turns, subject, at) => moved(bind(turns, subject, at, state)),
         Hand::Over(outcome) => Err(Halt::Finished(outcome)),
         Hand::Failed => Err(Halt::Memory),
         hand => Ok(unplaced(alone(hand))),

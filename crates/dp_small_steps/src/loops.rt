@@ -1,11 +1,12 @@
 //! The turns of loops, and what waits for a signal.
 
-ghost use Rattle.std.specs.Prelude.{◌≡◌, length};
+ghost use Rattle.std.specs.Prelude.{◌≡◌, drop, length};
 ghost use Rattle.dp_state.specs.declared.state.State.{State as AnyState};
 ghost use Rattle.dp_actions.specs.Expressions.{evaluations};
 ghost use Rattle.dp_actions.specs.Loops.{entries, last_holds as ends_true, after_body as over};
 ghost use Rattle.dp_actions.specs.Run.{and_then};
 ghost use Rattle.dp_actions.specs.Setting.{Setting};
+ghost use Rattle.dp_small_steps.specs.Rest.{each_turn as each_turn_of};
 ghost use Rattle.dp_small_steps.specs.Rest.{do_decided, do_rest, do_test, do_turns_of, each_from, each_rest};
 ghost use Rattle.dp_small_steps.specs.Rest.{next_rest, signal_rest, small_rest, turn_rest};
 ghost use Rattle.dp_small_steps.specs.Rest.{tests_of, turns_decided, turns_next, turns_of, turns_tested};
@@ -13,7 +14,8 @@ ghost use Rattle.dp_small_steps.specs.Parts.{Follows, to_signal};
 
 use crate::next::{alone, evaluated, placed, signal, unplaced, values_first};
 use crate::work::{
-    AfterValue, AfterValues, DoTurns, EachTurns, ForSignal, Hand, Head, Next, Small, Turns, Work,
+    AfterValue, AfterValues, DoTurns, EachTurns, ForSignal, Given, Hand, Head, Next, Small, Turns,
+    Work,
 };
 use dp_actions::{LoopStep, Signal, after_body, last_holds};
 use dp_state::Outcome;
@@ -108,7 +110,18 @@ pub(crate) fn each_turn<'p>(turns: EachTurns<'p>, subject: Value, at: usize) -> 
         drop(subject);
         unplaced(signal(Signal::Next))
     } else {
-        placed(turns.line, alone(Hand::Bind(turns, subject, at)))
+        placed(turns.line, due_entry(turns, subject, at, Signal::Next))
+    }
+}
+
+/// The turn of the entry at a position, whose moment has come: that is the machine's, so it stays.
+fn due_entry<'p>(turns: EachTurns<'p>, subject: Value, at: usize, given: Signal) -> Next<'p>
+    ensures { (setting : Setting) (k : Follows) (s : AnyState) → next_rest setting result k s
+        ≡ and_then (each_turn_of setting turns.entry (drop at (entries subject)) s) (to_signal k) }
+{
+    Next {
+        hand: Hand::Give(Given::Signal(given)),
+        waits: Some(Work::ForSignal(ForSignal::EachBody(turns, subject, at, true))),
     }
 }
 
@@ -215,7 +228,7 @@ fn each_on<'p>(
         (to_signal k) }
 {
     if due {
-        unplaced(alone(Hand::Bind(turns, subject, at)))
+        unplaced(due_entry(turns, subject, at, given))
     } else {
         each_over(turns, subject, at, given)
     }

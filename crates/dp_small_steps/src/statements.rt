@@ -2,11 +2,11 @@
 
 ghost use Rattle.std.specs.Prelude.{◌≡◌, drop, map};
 ghost use Rattle.dp_state.specs.declared.state.State.{State as AnyState};
-ghost use Rattle.dp_actions.specs.Expressions.{expression_run, place_run};
+ghost use Rattle.dp_actions.specs.Expressions.{place_run};
 ghost use Rattle.dp_actions.specs.Places.{unset_run};
 ghost use Rattle.dp_actions.specs.Run.{and_then};
 ghost use Rattle.dp_actions.specs.Setting.{Setting};
-ghost use Rattle.dp_actions.specs.Statements.{constants_run, echoes, end_run, statement_run};
+ghost use Rattle.dp_actions.specs.Statements.{constants_run, end_run, statement_run};
 ghost use Rattle.dp_small_steps.specs.Rest.{branch_decided, next_rest, next_to, small_rest};
 ghost use Rattle.dp_small_steps.specs.Parts.{Follows, to_signal};
 
@@ -21,16 +21,13 @@ use dp_value::Items;
 use std::alloc::Global;
 
 /// The beginning of a statement: its moment, if it has one, and what is done first. What a machine begins where it
-/// stands stays in hand: an expression, a block, an empty statement, an `if`, a `return`.
+/// stands stays in hand: an expression, a block, an empty statement, an `if`, an `echo`, and what leaves a body.
 pub fn begin<'p>(alloc: Global, bound: u64, statement: &'p Statement) -> Small<'p>
     ensures { (setting : Setting) → setting.bound ≡ bound → (k : Follows) (s : AnyState)
         → small_rest setting result k s ≡ and_then (statement_run statement.now setting s) (to_signal k) }
 {
     let line = statement.line;
     match &statement.kind {
-        StatementKind::Echo(operands) => placed(line, alone(Hand::Echo(operands, 0))),
-        StatementKind::Break(loops) => placed(line, signal(Signal::Break(*loops))),
-        StatementKind::Continue(number) => placed(line, signal(Signal::Continue(*number))),
         StatementKind::Global(names) => placed(line, alone(Hand::Global(names.as_slice()))),
         StatementKind::Unset(places) => placed(line, alone(Hand::Unset(places.as_slice()))),
         StatementKind::Constants(all) => placed(line, alone(Hand::Constants(all, 0))),
@@ -88,18 +85,6 @@ fn exit<'p>(value: &'p Option<Expression>) -> Next<'p>
     match value {
         None => alone(Hand::Over(Outcome::Exit(0))),
         Some(e) => evaluated(e, AfterValue::ExitWith),
-    }
-}
-
-/// The operands of an `echo` from a position on.
-pub(crate) fn echo<'p>(all: &'p Items<Expression>, at: usize) -> Next<'p>
-    ensures { (setting : Setting) (k : Follows) (s : AnyState)
-        → next_rest setting result k s ≡ and_then (echoes (map expression_run (drop at all.now)) setting s)
-        (to_signal k) }
-{
-    match all.as_slice().get(at) {
-        None => signal(Signal::Next),
-        Some(first) => evaluated(first, AfterValue::Echoed(all, at + 1)),
     }
 }
 

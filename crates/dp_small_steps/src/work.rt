@@ -98,8 +98,6 @@ pub enum Hand<'p> {
     DoTurn(DoTurns<'p>, u64),
     /// The turns from the entry at a position on.
     EachTurn(EachTurns<'p>, Value, usize),
-    /// The entry at a position is bound, and then its turn comes.
-    Bind(EachTurns<'p>, Value, usize),
     /// A call whose body is done has left.
     Left(Signal),
     /// An included file is done.

@@ -38,7 +38,7 @@ use Rattle.dp_small_steps.specs.declared.work.Waiting.TheVariants as waiting
 use Rattle.dp_small_steps.specs.Rest.{behind, hand_rest, next_rest, small_rest, waiting_rest}
 use Rattle.dp_small_steps.specs.Parts.{Follows, to_signal, to_value}
 use Rattle.dp_step.specs.Stands.{depth_after, pending_rest, rest_of, signal_of}
-use Rattle.dp_small_steps.specs.Leads.{Goes}
+use Rattle.dp_small_steps.specs.Leads.{Goes, Leads}
 use Rattle.dp_step.specs.inner.Moves.{IsDone, IsOver, Moves, MovesBy, body_with, came_of, came_to, ends_call, file_with, follows_of, leave_if, rest_with, setting_at, small_with}
 
 -- ---- the innermost item
@@ -88,12 +88,12 @@ pub done-is : (run : Run Signal) (m : Machine) → IsDone run m → IsOver run w
 done-is run m d = subst (λ r. IsOver r way.Done m.state) (sym d.done) (refl, refl)
 
 -- a part that ends the program, or wants memory
-pub moves_off : (setting : Setting) (part : Follows → Run Signal) (why : Halt) (t : State) (k : Follows) (m : Machine)
-    (came : Came) → came ≡ came_of why → m.state ≡ t → Goes setting part (Err why) t → MovesBy (part k) came m
-moves_off setting part why t k m came is e h =
-    subst (λ c. MovesBy (part k) c m) (sym is) (by why h)
+pub leads-off : {N : Type 0} (rest : N → Follows → State → Run Signal) (part : Follows → Run Signal) (why : Halt)
+    (t : State) (k : Follows) (m : Machine) (came : Came) → came ≡ came_of why → m.state ≡ t
+    → Leads rest part (Err why) t → MovesBy (part k) came m
+leads-off rest part why t k m came is e h = subst (λ c. MovesBy (part k) c m) (sym is) (by why h)
   where
-    by : (why : Halt) → Goes setting part (Err why) t → MovesBy (part k) (came_of why) m
+    by : (why : Halt) → Leads rest part (Err why) t → MovesBy (part k) (came_of why) m
     by Memory h = tt
     by (Finished o) h = h.by k ∙ ap (Over o) (sym e)
     by (Stopped at) h = tt

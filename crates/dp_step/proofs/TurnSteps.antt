@@ -1,5 +1,5 @@
 -- Steps with the statements and the loops that wait, by what a machine has to do before and after.
-use Rattle.std.proofs.Common.{◌≡◌, ℕ, suc, ◌+◌, ◌-◌, ◌<◌, Bool, true, false, List, [], ◌∷◌, ◌++◌, drop, length, slice_index_or, slice_set, get_or, take, refl, sym, ap, subst, Err, ◌∙◌, arith}
+use Rattle.std.proofs.Common.{◌≡◌, ℕ, suc, ◌+◌, ◌-◌, ◌<◌, Bool, true, false, List, [], ◌∷◌, ◌++◌, drop, length, slice_index_or, slice_set, get_or, take, refl, sym, ap, ◌∙◌, arith}
 use Rattle.std.specs.Prelude.{slice_get, Some}
 use Rattle.dp_tree.specs.declared.tree.Expression.{Expression}
 use Rattle.dp_tree.specs.declared.tree.Statement.{Statement}
@@ -9,8 +9,6 @@ use Rattle.dp_state.specs.declared.moments.Outcome.TheVariants as way
 use Rattle.dp_state.specs.declared.state.State.{State}
 use Rattle.dp_actions.specs.declared.signal.Signal.{Signal}
 use Rattle.dp_actions.specs.declared.signal.Signal.TheVariants.{Next}
-use Rattle.dp_actions.specs.declared.halt.Halt.{Halt}
-use Rattle.dp_actions.specs.declared.halt.Halt.TheVariants.{Memory, Finished, Stopped}
 use Rattle.dp_actions.specs.Expressions.{evaluation, evaluations}
 use Rattle.dp_actions.specs.Loops.{entries}
 use Rattle.dp_actions.specs.Values.{holds}
@@ -18,8 +16,7 @@ use Rattle.dp_actions.specs.Run.{Run, Done, Over, At, and_then, ◌>>=◌}
 use Rattle.dp_actions.specs.Statements.{body_run, go_on, statement_run}
 use Rattle.dp_actions.proofs.Runs.{and_then-assoc}
 use Rattle.dp_small_steps.specs.declared.work.Given.TheVariants as given
-use Rattle.dp_small_steps.specs.Leads.{Leads}
-use Rattle.dp_small_steps.specs.Parts.{Follows, to_signal}
+use Rattle.dp_small_steps.specs.Parts.{to_signal}
 use Rattle.dp_small_steps.specs.declared.work.DoTurns.{DoTurns}
 use Rattle.dp_small_steps.specs.declared.work.EachTurns.{EachTurns}
 use Rattle.dp_small_steps.specs.declared.work.ForSignal.{ForSignal}
@@ -32,9 +29,8 @@ use Rattle.dp_small_steps.specs.declared.work.Work.TheVariants as work
 use Rattle.dp_small_steps.specs.Rest.{do_decided, do_test, do_turns_of, each_from, each_rest, hand_rest, signal_rest, turns_decided, turns_of, turns_tested, work_rest}
 use Rattle.dp_small_steps.proofs.FirstStatements.{body-first}
 use Rattle.dp_small_steps.proofs.TurnLaws.{at-same, do-first, each-first, test-alone, turn-first}
-use Rattle.dp_step.specs.declared.machine.Came.{Came}
 use Rattle.dp_step.specs.declared.machine.Machine.{Machine}
-use Rattle.dp_step.specs.inner.Moves.{MovesBy, came_of, setting_at}
+use Rattle.dp_step.specs.inner.Moves.{setting_at}
 use Rattle.dp_step.specs.inner.Innermost.{over, waiting_for, waits_for}
 use Rattle.dp_step.proofs.LastStatements.{last-run}
 use Rattle.dp_step.proofs.Smalls.{beside, innermost}
@@ -214,14 +210,3 @@ module _ (m : Machine) (below : List Waiting) (s : State) where
         sym (each-first (setting_at m) (over m below) s loop subject at h)
         ∙ at-same loop.line s _ _ (λ t. sym (innermost m.bundle.now m.bound m.depth below
         (waiting_for (signal_work.EachBody loop subject at true)) items e (given.Signal Next) t))
-
--- a part that ends the program, or wants memory
-pub leads-off : {N : Type 0} (rest : N → Follows → State → Run Signal) (part : Follows → Run Signal) (why : Halt)
-    (t : State) (k : Follows) (m : Machine) (came : Came) → came ≡ came_of why → m.state ≡ t
-    → Leads rest part (Err why) t → MovesBy (part k) came m
-leads-off rest part why t k m came is e h = subst (λ c. MovesBy (part k) c m) (sym is) (by why h)
-  where
-    by : (why : Halt) → Leads rest part (Err why) t → MovesBy (part k) (came_of why) m
-    by Memory h = tt
-    by (Finished o) h = h.by k ∙ ap (Over o) (sym e)
-    by (Stopped at) h = tt

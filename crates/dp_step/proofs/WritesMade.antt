@@ -37,16 +37,6 @@ of-append n (w ∷ ws) vs = by (nat_eq w.moment n) (of-append n ws vs)
     by true more = ap (λ l. w ∷ l) more
     by false more = more
 
-pub of-same : (n : ℕ) (ws : List NumberedWrite) → of_number n (of_number n ws) ≡ of_number n ws
-of-same n [] = refl
-of-same n (w ∷ ws) = by (nat_eq w.moment n) refl (of-same n ws)
-  where
-    by : (b : Bool) → nat_eq w.moment n ≡ b → of_number n (of_number n ws) ≡ of_number n ws
-        → of_number n (if b then w ∷ of_number n ws else of_number n ws)
-        ≡ (if b then w ∷ of_number n ws else of_number n ws)
-    by true e more = rw e (ap (λ l. w ∷ l) more)
-    by false e more = more
-
 pub of-other : (n k : ℕ) (ws : List NumberedWrite) → (n ≡ k → ⊥) → of_number k (of_number n ws) ≡ []
 of-other n k [] apart = refl
 of-other n k (w ∷ ws) apart = by (nat_eq w.moment n) refl (of-other n k ws apart)
@@ -238,17 +228,6 @@ module _ (bundle : Bundle) (bound : ℕ) (ws vs : List NumberedWrite) (old new :
           λ s. stands.rest.2 s ∙ sym (rest s),
         );
       }
-
--- a machine stands for a program with each list that has the same writes of each number up to the moment, and none
--- above
-pub stands-alike : (bundle : Bundle) (bound : ℕ) (ws vs : List NumberedWrite) (n : ℕ) (m : Machine)
-    → StandsFor bundle bound ws n m
-    → SameBelow (suc n) ws vs → NoneAbove n vs → StandsFor bundle bound vs n m
-stands-alike bundle bound ws vs zero m stands same early = before-first bundle bound ws vs m m refl refl
-    (λ s. refl) stands early refl
-stands-alike bundle bound ws vs (suc k) m stands same early =
-    at-moment bundle bound ws vs m m refl refl (λ s. refl) k stands (λ j lt. same j (omega (arith, lt))) early
-    (λ s e. sym (same-written (evaluation_setting bundle) ws vs (suc k) s (same (suc k) (omega arith))) ∙ e)
 
 -- ---- writes that are made
 

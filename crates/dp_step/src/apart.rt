@@ -6,7 +6,7 @@ ghost use Rattle.dp_step.specs.inner.Apart.{value_in};
 
 use crate::machine::{Came, Machine, Progress};
 use dp_actions::Signal;
-use dp_analysis::is_momentless;
+use dp_meaning::EVALUATION_LIMIT;
 use dp_small_steps::{AfterValue, Given, Hand, Waiting, Work};
 use dp_state::{FRAME_LIMIT, MomentKind, State};
 use dp_tree::{Bundle, Expression};
@@ -14,31 +14,11 @@ use dp_value::{Memory, Value};
 use std::alloc::Global;
 use std::mem;
 
-/// How many moments an evaluation may have.
-const EVALUATION_LIMIT: u64 = 10_000;
-
 /// The value of an expression in the top frame of a state, where it holds, and the state that its evaluation leaves;
 /// the state itself stays as it is. It does not hold where it is fatal, ends the program or has more than 10,000
 /// moments, and then nothing is said of the state that is handed out. Copies the state. It takes no more of the stack
 /// the deeper it calls.
 pub fn evaluation(
-    alloc: Global,
-    bundle: &Bundle,
-    e: &Expression,
-    state: &State,
-) -> Result<(Option<Value>, State), Memory>
-    ensures { IfOk result (λ end. evaluated (evaluation_setting bundle.now) e.now state.now ≡ option_map
-        (λ v. (v, end.1)) end.0) }
-{
-    if is_momentless(e) {
-        dp_meaning::evaluation(alloc, bundle, e, state)
-    } else {
-        by_steps(alloc, bundle, e, state)
-    }
-}
-
-/// The same by small steps.
-fn by_steps(
     alloc: Global,
     bundle: &Bundle,
     e: &Expression,

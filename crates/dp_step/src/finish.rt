@@ -5,11 +5,12 @@ ghost use Rattle.std.specs.Prelude.{◌≡◌, ◌-◌};
 use crate::deep_turns::is_run_whole;
 use crate::machine::{Came, Machine, Progress};
 use crate::small::put_hand;
+use crate::statements::is_next;
 use crate::steps::Steps;
 use dp_actions::{Halt, Signal};
 use dp_analysis::DeepNames;
 use dp_meaning::Whole;
-use dp_small_steps::{DoTurns, EachTurns, Given, Hand, Head, Turns};
+use dp_small_steps::{DoTurns, EachTurns, ForSignal, Given, Hand, Head, Turns, Waiting, Work};
 use dp_state::Outcome;
 use dp_value::{Memory, Value};
 use std::sync::ledger::Ledger;
@@ -217,13 +218,15 @@ impl<'p> Machine<'p> {
         self.onward()
     }
 
-    /// A small step. The turns that are left of a loop whose body is over come into hand.
+    /// A small step. The turns that are left of a loop whose body is over come into hand, but for an entry whose moment
+    /// has come: that is bound where it waits.
     fn go_to_turns(&mut self) -> Came
         ensures { Moves self.old (rest_of self.old self.old.state) result self.new }
     {
-        match &self.hand {
-            Hand::Give(Given::Signal(Signal::Next)) => self.small(),
-            _ => self.go(),
+        if is_next(&self.hand) && !has_due_entry(&self.pending) {
+            self.small()
+        } else {
+            self.go()
         }
     }
 
@@ -244,6 +247,14 @@ impl<'p> Machine<'p> {
             Came::Over(outcome) => Ok(Some(outcome)),
             Came::Failed => Err(Memory),
         }
+    }
+}
+
+/// Whether the innermost item is a `foreach` whose next entry is due.
+fn has_due_entry(pending: &Vec<Waiting<'_>>) -> bool {
+    match pending.last() {
+        Some(Waiting::Part(Work::ForSignal(ForSignal::EachBody(_, _, _, due)))) => *due,
+        _ => false,
     }
 }
 

@@ -98,7 +98,8 @@ impl<'p> Machine<'p> {
     }
 
     /// Something is given to a part that waited.
-    fn pass(&mut self, work: Work<'p>, given: Given) -> Came
+    #[inline(always)]
+    pub(crate) fn pass(&mut self, work: Work<'p>, given: Given) -> Came
         ensures { Moves self.old (work_with self.old work.entry given self.old.state) result self.new }
     {
         match receive(self.alloc, self.bundle, work, given, &mut self.state) {
@@ -108,6 +109,7 @@ impl<'p> Machine<'p> {
     }
 
     /// What a small step comes to is kept.
+    #[inline(always)]
     pub(crate) fn keep(&mut self, small: Small<'p>) -> Came
         ensures { Moves self.old (small_with self.old small.entry self.old.state) result self.new }
     {

@@ -2,6 +2,11 @@
 //! next is written where it stands. A function has no large local, since each is cleared where the function begins,
 //! whichever way it goes.
 
+ghost use Rattle.std.specs.Prelude.{◌≡◌, true};
+ghost use Rattle.dp_actions.specs.declared.signal.Signal.TheVariants.{Next as NextSignal};
+ghost use Rattle.dp_small_steps.specs.declared.work.Given.TheVariants as any_given;
+ghost use Rattle.dp_small_steps.specs.declared.work.Hand.TheVariants as any_hand;
+
 use crate::machine::{Came, Machine, halted};
 use crate::small::put_hand;
 use dp_actions::{Signal, holds};
@@ -13,14 +18,17 @@ use dp_value::{Items, Value};
 
 impl<'p> Machine<'p> {
     ghost use Rattle.std.specs.Prelude.{[], Some};
-    ghost use Rattle.dp_actions.specs.Run.{At};
+    ghost use Rattle.dp_actions.specs.Expressions.{evaluation};
+    ghost use Rattle.dp_actions.specs.Run.{At, and_then};
     ghost use Rattle.dp_actions.specs.Statements.{return_run, statement_run};
     ghost use Rattle.dp_state.specs.declared.moments.MomentKind.TheVariants as any_moment;
     ghost use Rattle.dp_step.specs.Stands.{rest_of};
     ghost use Rattle.dp_step.specs.inner.Leaps.{part_with};
-    ghost use Rattle.dp_step.specs.inner.Moves.{Moves, next_with, rest_with};
+    ghost use Rattle.dp_step.specs.inner.Moves.{Moves, follows_of, next_with, rest_with, setting_at, work_with};
     ghost use Rattle.dp_small_steps.specs.Rest.{arms_part};
+    ghost use Rattle.dp_small_steps.specs.declared.work.Given.TheVariants as any_given;
     ghost use Rattle.dp_small_steps.specs.declared.work.Hand.TheVariants as any_hand;
+    ghost use Rattle.dp_small_steps.specs.declared.work.Work.TheVariants as any_work;
 
     /// A small step.
     pub(crate) fn go(&mut self) -> Came
@@ -69,7 +77,23 @@ impl<'p> Machine<'p> {
                 let e = *e;
                 self.evaluate_whole(e)
             }
-            _ => self.small(),
+            Hand::Echo(all, at) => {
+                let all = *all;
+                let at = *at;
+                self.echo(all, at)
+            }
+            _ => self.go_by_signal(),
+        }
+    }
+
+    /// A small step by the signal to go on, if that is in hand.
+    fn go_by_signal(&mut self) -> Came
+        ensures { Moves self.old (rest_of self.old self.old.state) result self.new }
+    {
+        if is_next(&self.hand) {
+            self.on()
+        } else {
+            self.small()
         }
     }
 
@@ -111,6 +135,9 @@ impl<'p> Machine<'p> {
             StatementKind::Empty => self.on(),
             StatementKind::If { arms, otherwise } => self.arms(arms, 0, otherwise),
             StatementKind::Return(value) => self.begin_return(statement.line, value),
+            StatementKind::Echo(operands) => self.placed(statement.line, Hand::Echo(operands, 0)),
+            StatementKind::Break(n) => self.begin_signal(statement.line, Signal::Break(*n)),
+            StatementKind::Continue(n) => self.begin_signal(statement.line, Signal::Continue(*n)),
             _ => self.begin_large(statement),
         }
     }
@@ -121,12 +148,17 @@ impl<'p> Machine<'p> {
             (λ s. part_with self.old (return_run value.now) s)) result self.new }
     {
         match value {
-            None => {
-                let given = Given::Signal(Signal::Return(Value::Null));
-                self.placed(line, Hand::Give(given))
-            }
+            None => self.begin_signal(line, Signal::Return(Value::Null)),
             Some(e) => self.placed(line, Hand::Returning(e)),
         }
+    }
+
+    /// A signal, behind the moment of a statement on this line.
+    fn begin_signal(&mut self, line: u32, signal: Signal) -> Came
+        ensures { Moves self.old (At any_moment.Place line self.old.state
+            (follows_of self.old (any_given.Signal signal))) result self.new }
+    {
+        self.placed(line, Hand::Give(Given::Signal(signal)))
     }
 
     /// The same of a statement whose beginning moves what is in hand.
@@ -212,6 +244,33 @@ impl<'p> Machine<'p> {
         }
     }
 
+    /// The operands of an `echo` from a position on.
+    fn echo(&mut self, all: &'p Items<Expression>, at: usize) -> Came
+        ensures { Moves self.old (rest_with self.old (any_hand.Echo all.entry at) self.old.state) result self.new }
+    {
+        match all.as_slice().get(at) {
+            None => self.on(),
+            Some(first) => self.value_for(first, AfterValue::Echoed(all, at + 1)),
+        }
+    }
+
+    /// The value of an expression is given to a statement that waits for it, at once where no moment can come in it.
+    fn value_for(&mut self, e: &'p Expression, after: AfterValue<'p>) -> Came
+        ensures { Moves self.old (and_then (evaluation e.now (setting_at self.old) self.old.state)
+            (λ v t. work_with self.old (any_work.AfterValue after.entry) (any_given.Value v) t)) result self.new }
+    {
+        if !is_momentless(e) {
+            return self.wait(Hand::Evaluate(e), Work::AfterValue(after));
+        }
+        match self.whole().value(e, &mut self.state) {
+            Ok(value) => self.pass(Work::AfterValue(after), Given::Value(value)),
+            Err(why) => {
+                drop(after);
+                halted(why)
+            }
+        }
+    }
+
     /// An expression as a statement, whose moment has come.
     fn effect(&mut self, e: &'p Expression) -> Came
         ensures { Moves self.old (rest_with self.old (any_hand.Effect e.entry) self.old.state) result self.new }
@@ -239,5 +298,25 @@ impl<'p> Machine<'p> {
             Ok(value) => self.take(Given::Signal(Signal::Return(value))),
             Err(why) => halted(why),
         }
+    }
+}
+
+/// Whether the signal to go on is in hand.
+pub(crate) fn is_next(hand: &Hand<'_>) -> bool
+    ensures { result ≡ true → hand.now ≡ any_hand.Give (any_given.Signal NextSignal) }
+{
+    match hand {
+        Hand::Give(given) => is_next_given(given),
+        _ => false,
+    }
+}
+
+/// Whether that is given.
+fn is_next_given(given: &Given) -> bool
+    ensures { result ≡ true → given.now ≡ any_given.Signal NextSignal }
+{
+    match given {
+        Given::Signal(signal) => matches!(signal, Signal::Next),
+        _ => false,
     }
 }

@@ -2,12 +2,11 @@
 //! it is, and its numbers are changed where they stand. A function has no large local, as in the steps with statements.
 
 ghost use Rattle.std.specs.Prelude.{◌≡◌, ℕ, Bool, List};
-ghost use Rattle.dp_small_steps.specs.declared.work.DoTurns.{DoTurns as AnyDoTurns};
 ghost use Rattle.dp_small_steps.specs.declared.work.EachTurns.{EachTurns as AnyEachTurns};
+ghost use Rattle.dp_small_steps.specs.declared.work.ForSignal.{ForSignal as AnySignalWork};
 ghost use Rattle.dp_small_steps.specs.declared.work.ForSignal.TheVariants as any_signal_work;
-ghost use Rattle.dp_small_steps.specs.declared.work.Turns.{Turns as AnyTurns};
 ghost use Rattle.dp_small_steps.specs.declared.work.Waiting.{Waiting as AnyWaiting};
-ghost use Rattle.dp_step.specs.inner.Innermost.{StatementList, waiting_for, waits_for};
+ghost use Rattle.dp_step.specs.inner.Innermost.{waiting_for, waits_for};
 ghost use Rattle.dp_value.specs.declared.value.Value.{Value as AnyValue};
 
 use crate::machine::{Came, Machine, halted};
@@ -19,6 +18,7 @@ use dp_small_steps::{
 use dp_state::Outcome;
 use dp_tree::{Expression, Statement};
 use dp_value::Items;
+use std::mem;
 
 impl<'p> Machine<'p> {
     ghost use Rattle.std.specs.Prelude.{◌≡◌, ◌-◌, ◌<◌, ◌^◌, ℕ, true, false, List, drop, length};
@@ -91,7 +91,7 @@ impl<'p> Machine<'p> {
             }
             Some(first) => {
                 if at + 1 < all.as_slice().len() {
-                    put_position(&mut self.pending, at + 1);
+                    put_last(&mut self.pending, ForSignal::Rest(all, at + 1));
                     self.put(Hand::Run(first))
                 } else {
                     drop(self.pending.pop());
@@ -182,7 +182,7 @@ impl<'p> Machine<'p> {
             (to_signal (over self.old below))) result self.new }
     {
         if held {
-            put_turn(&mut self.pending, left, false);
+            put_last(&mut self.pending, ForSignal::Body(turns, left, false));
             self.put(Hand::Run(turns.body.as_ref()))
         } else {
             drop(self.pending.pop());
@@ -257,7 +257,7 @@ impl<'p> Machine<'p> {
         if left == 0 {
             Came::Over(Outcome::Bound)
         } else {
-            put_turn(&mut self.pending, left - 1, true);
+            put_last(&mut self.pending, ForSignal::Body(turns, left - 1, true));
             self.placed(turns.line, Hand::Give(Given::Signal(Signal::Next)))
         }
     }
@@ -270,7 +270,7 @@ impl<'p> Machine<'p> {
         if due {
             self.do_due(turns, left)
         } else {
-            put_do(&mut self.pending, left, true);
+            put_last(&mut self.pending, ForSignal::DoBody(turns, left, true));
             self.placed(turns.line, Hand::Give(Given::Signal(Signal::Next)))
         }
     }
@@ -314,7 +314,7 @@ impl<'p> Machine<'p> {
         if left == 0 {
             Came::Over(Outcome::Bound)
         } else {
-            put_do(&mut self.pending, left - 1, false);
+            put_last(&mut self.pending, ForSignal::DoBody(turns, left - 1, false));
             self.put(Hand::Run(turns.body.as_ref()))
         }
     }
@@ -359,37 +359,22 @@ impl<'p> Machine<'p> {
     }
 }
 
-/// The position from which statements wait is this.
-fn put_position<'p>(pending: &mut Vec<Waiting<'p>>, at: usize)
-    ensures { (below : List AnyWaiting) (all : StatementList) (before : ℕ)
-        → pending.old.items ≡ waits_for below (any_signal_work.Rest all before)
-        → pending.new.items ≡ waits_for below (any_signal_work.Rest all at) }
+/// The innermost item, where it waits for a signal, is this.
+fn put_last<'p>(pending: &mut Vec<Waiting<'p>>, work: ForSignal<'p>)
+    ensures { (below : List AnyWaiting) (before : AnySignalWork) → pending.old.items ≡ waits_for below before
+        → pending.new.items ≡ waits_for below work.entry }
 {
-    if let Some(item) = pending.last_mut() {
-        position_in(item, at);
+    match pending.last_mut() {
+        Some(item) => put_item(item, Waiting::Part(Work::ForSignal(work))),
+        None => drop(work),
     }
 }
 
-/// How many turns are left, and whether one is due.
-fn put_turn<'p>(pending: &mut Vec<Waiting<'p>>, left: u64, due: bool)
-    ensures { (below : List AnyWaiting) (turns : AnyTurns) (n : ℕ) (b : Bool)
-        → pending.old.items ≡ waits_for below (any_signal_work.Body turns n b)
-        → pending.new.items ≡ waits_for below (any_signal_work.Body turns left due) }
+/// An item is this.
+fn put_item<'p>(place: &mut Waiting<'p>, item: Waiting<'p>)
+    ensures { place.new ≡ item.entry }
 {
-    if let Some(item) = pending.last_mut() {
-        turn_in(item, left, due);
-    }
-}
-
-/// The same of a `do`.
-fn put_do<'p>(pending: &mut Vec<Waiting<'p>>, left: u64, due: bool)
-    ensures { (below : List AnyWaiting) (turns : AnyDoTurns) (n : ℕ) (b : Bool)
-        → pending.old.items ≡ waits_for below (any_signal_work.DoBody turns n b)
-        → pending.new.items ≡ waits_for below (any_signal_work.DoBody turns left due) }
-{
-    if let Some(item) = pending.last_mut() {
-        do_in(item, left, due);
-    }
+    drop(mem::replace(place, item));
 }
 
 /// The position of the next entry of a `foreach`, and whether its turn is due.
@@ -403,55 +388,7 @@ fn put_entry<'p>(pending: &mut Vec<Waiting<'p>>, at: usize, due: bool)
     }
 }
 
-/// The position of an item of statements is this.
-fn position_in<'p>(item: &mut Waiting<'p>, at: usize)
-    ensures { (all : StatementList) (before : ℕ) → item.old ≡ waiting_for (any_signal_work.Rest all before)
-        → item.new ≡ waiting_for (any_signal_work.Rest all at) }
-{
-    if let Waiting::Part(work) = item {
-        if let Work::ForSignal(kind) = work {
-            if let ForSignal::Rest(_, here) = kind {
-                *here = at;
-            }
-        }
-    }
-}
-
-/// The numbers of an item of turns are these.
-fn turn_in<'p>(item: &mut Waiting<'p>, left: u64, due: bool)
-    ensures { (turns : AnyTurns) (n : ℕ) (b : Bool) → item.old ≡ waiting_for (any_signal_work.Body turns n b)
-        → item.new ≡ waiting_for (any_signal_work.Body turns left due) }
-{
-    if let Waiting::Part(work) = item {
-        if let Work::ForSignal(kind) = work {
-            if let ForSignal::Body(_, here, _) = kind {
-                *here = left;
-            }
-            if let ForSignal::Body(_, _, here) = kind {
-                *here = due;
-            }
-        }
-    }
-}
-
-/// The same of a `do`.
-fn do_in<'p>(item: &mut Waiting<'p>, left: u64, due: bool)
-    ensures { (turns : AnyDoTurns) (n : ℕ) (b : Bool) → item.old ≡ waiting_for (any_signal_work.DoBody turns n b)
-        → item.new ≡ waiting_for (any_signal_work.DoBody turns left due) }
-{
-    if let Waiting::Part(work) = item {
-        if let Work::ForSignal(kind) = work {
-            if let ForSignal::DoBody(_, here, _) = kind {
-                *here = left;
-            }
-            if let ForSignal::DoBody(_, _, here) = kind {
-                *here = due;
-            }
-        }
-    }
-}
-
-/// The same of a `foreach`.
+/// The numbers of an item of a `foreach` are these.
 fn entry_in<'p>(item: &mut Waiting<'p>, at: usize, due: bool)
     ensures { (turns : AnyEachTurns) (subject : AnyValue) (n : ℕ) (b : Bool)
         → item.old ≡ waiting_for (any_signal_work.EachBody turns subject n b)

@@ -1,7 +1,5 @@
 -- The innermost item of the pending work, where it waits for a signal.
 use Rattle.std.specs.Prelude.{◌≡◌, ℕ, Bool, List, [], ◌∷◌, ◌++◌, length, reverse}
-use Rattle.std.specs.Borrow.{Bor}
-use Rattle.dp_tree.specs.declared.tree.Statement.{Statement}
 use Rattle.dp_value.specs.declared.value.Value.{Value}
 use Rattle.dp_actions.specs.Loops.{entries}
 use Rattle.dp_step.specs.declared.machine.Machine.{Machine}
@@ -13,9 +11,6 @@ use Rattle.dp_small_steps.specs.declared.work.ForSignal.TheVariants as signal_wo
 use Rattle.dp_small_steps.specs.declared.work.Waiting.{Waiting}
 use Rattle.dp_small_steps.specs.declared.work.Waiting.TheVariants as waiting
 use Rattle.dp_small_steps.specs.declared.work.Work.TheVariants as work
-
-abbrev pub StatementList : Type 0
-StatementList = Bor (List Statement)
 
 abbrev pub waiting_for : ForSignal → Waiting
 waiting_for w = waiting.Part (work.ForSignal w)

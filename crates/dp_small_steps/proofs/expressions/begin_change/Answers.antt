@@ -8,12 +8,12 @@ returns-in-Step c =
 
 pub returns-in-Assign : goal.returns-in-Assign
 returns-in-Assign c =
-    λ setting k s. rw c.in-Assign.is (c.values_first-in-Assign.ensures setting k s
+    λ setting k s. rw c.in-Assign.is (c.begin_assign.ensures setting k s
     ∙ sym (begins.begins-Assign setting k s _ _))
 
 pub returns-in-Push : goal.returns-in-Push
 returns-in-Push c =
-    λ setting k s. rw c.in-Push.is (c.values_first-in-Push.ensures setting k s
+    λ setting k s. rw c.in-Push.is (c.begin_assign-in-Push.ensures setting k s
     ∙ sym (begins.begins-Push setting k s _ _))
 
 pub returns-in-Compound : goal.returns-in-Compound

@@ -3,14 +3,9 @@ use Rattle.dp_actions.specs.Run.{and_then}
 use Rattle.dp_small_steps.proofs.MomentSteps.{goes_as}
 use Rattle.dp_small_steps.proofs.hands.first_of_statement.Goals as goal
 
-pub returns-in-Echo : goal.returns-in-Echo
-returns-in-Echo c = λ setting.
-    rw (c.in-Echo.is, c.unplaced.ensures)
-    (goes_as setting _ _ _ (λ k. c.echo.ensures setting k c.args.state.now))
-
 pub returns-in-Unset : goal.returns-in-Unset
 returns-in-Unset c = λ setting.
-    rw (c.in-Unset.is, c.unplaced-in-Unset.ensures)
+    rw (c.in-Unset.is, c.unplaced.ensures)
     (goes_as setting _ _ _ (λ k. c.unset.ensures setting k c.args.state.now))
 
 pub returns-in-Constants : goal.returns-in-Constants
@@ -34,9 +29,6 @@ returns-in-EachTurn c = λ setting.
 pub returns-in-Global : goal.returns-in-Global
 unfolding and_then
 returns-in-Global c = λ setting. rw c.in-Global.is (c.moved.ensures setting _ _ (c.global.ensures setting))
-
-pub returns-in-Bind : goal.returns-in-Bind
-returns-in-Bind c = λ setting. rw c.in-Bind.is (c.moved-in-Bind.ensures setting _ _ (c.bind.ensures setting))
 
 pub returns-in-Over : goal.returns-in-Over
 returns-in-Over c = λ setting. record { by = λ k. rw c.in-Over.is refl }

@@ -4,33 +4,15 @@ use Rattle.dp_actions.specs.Expressions.{place_run}
 use Rattle.dp_actions.specs.Places.{unset_run}
 use Rattle.dp_actions.specs.Run.{Done, and_then}
 use Rattle.dp_actions.proofs.Runs.{and_then-assoc}
-use Rattle.dp_actions.proofs.StatementLayers.{kind-Break, kind-Constants, kind-Continue, kind-Echo, kind-Exit, kind-Global, kind-Unset}
+use Rattle.dp_actions.proofs.StatementLayers.{kind-Constants, kind-Exit, kind-Global, kind-Unset}
 use Rattle.dp_small_steps.specs.Parts.{to_signal}
 use Rattle.dp_small_steps.proofs.FirstStatements.{placed-is, statement-is}
 use Rattle.dp_small_steps.proofs.statements.begin.Goals as goal
 
-pub returns-in-Echo : goal.returns-in-Echo
-unfolding and_then
-returns-in-Echo c = λ setting same k s.
-    rw (c.placed.ensures, c.alone.ensures)
-    (sym (statement-is setting k s c.args.statement.now _ c.in-Echo.is _ (kind-Echo _)))
-
-pub returns-in-Break : goal.returns-in-Break
-unfolding and_then
-returns-in-Break c = λ setting same k s.
-    rw (c.placed-in-Break.ensures, c.signal.ensures)
-    (sym (statement-is setting k s c.args.statement.now _ c.in-Break.is _ (kind-Break _)))
-
-pub returns-in-Continue : goal.returns-in-Continue
-unfolding and_then
-returns-in-Continue c = λ setting same k s.
-    rw (c.placed-in-Continue.ensures, c.signal-in-Continue.ensures)
-    (sym (statement-is setting k s c.args.statement.now _ c.in-Continue.is _ (kind-Continue _)))
-
 pub returns-in-Global : goal.returns-in-Global
 unfolding and_then
 returns-in-Global c = λ setting same k s.
-    rw (c.placed-in-Global.ensures, c.alone-in-Global.ensures, c.as_slice.ensures)
+    rw (c.placed.ensures, c.alone.ensures, c.as_slice.ensures)
     (sym (statement-is setting k s c.args.statement.now _ c.in-Global.is _ (kind-Global _)))
 
 pub returns-in-Unset : goal.returns-in-Unset

@@ -13,7 +13,7 @@ pub returns-in-None : goal.returns-in-None
 unfolding and_then
 returns-in-None c =
     let m = c.args.self.now in
-    moves_as m m _ _ _ _ (rw c.in-None.is refl) refl refl c.placed.ensures
+    moves_as m m _ _ _ _ (rw c.in-None.is refl) refl refl c.begin_signal.ensures
 
 pub returns-in-Some : goal.returns-in-Some
 unfolding and_then
@@ -21,4 +21,4 @@ returns-in-Some c =
     let m = c.args.self.now in
     moves_as m m _ _ _ _ (rw c.in-Some.is (λ i. At moment.Place c.args.line m.state (λ t.
     and_then-assoc (evaluation c.in-Some.e (setting_at m) t) returning (to_signal (follows_of m)) i)))
-    refl refl c.placed-in-Some.ensures
+    refl refl c.placed.ensures

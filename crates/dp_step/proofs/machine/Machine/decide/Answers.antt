@@ -11,7 +11,7 @@ returns-then-held c = λ below e.
     moves_as m _ _ _ _ _ (decided-on m below m.state c.args.turns c.args.left c.args.held c.if-held.true
     ∙ rw c.as_ref.ensures refl
     ∙ sym (with-is m below m.state _ (signal_work.Body c.args.turns c.args.left false)
-    (c.put_turn.ensures below c.args.turns c.args.left true e)
+    (c.put_last.ensures below _ e)
     (hand.Run c.as_ref.result))) refl refl c.put.ensures
 
 pub returns-else-held : goal.returns-else-held

@@ -9,5 +9,5 @@ returns-else-due c =
     let below = c.requires.0 in
     let e = rw c.if-due.false at c.requires.1 in
     moves_as m _ _ _ _ _ (on-is m below m.state m.pending.items _ e
-    ∙ do-come m below m.state c.args.turns c.args.left _ (c.put_do.ensures below c.args.turns c.args.left _ e))
+    ∙ do-come m below m.state c.args.turns c.args.left _ (c.put_last.ensures below _ e))
     refl refl c.placed.ensures

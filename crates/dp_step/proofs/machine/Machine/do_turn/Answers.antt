@@ -19,5 +19,5 @@ returns-else-left-eq0 c = λ below e.
     moves_as m _ _ _ _ _ (do-next m below m.state c.args.turns c.args.left (omega (arith, c.if-left-eq0.false))
     ∙ rw c.as_ref.ensures refl
     ∙ sym (with-is m below m.state _ (signal_work.DoBody c.args.turns (c.args.left - 1) false)
-    (c.put_do.ensures below c.args.turns c.args.left true e)
+    (c.put_last.ensures below _ e)
     (hand.Run c.as_ref.result))) refl refl c.put.ensures

@@ -9,8 +9,8 @@ use Rattle.dp_small_steps.specs.declared.work.Hand.TheVariants as hand
 use Rattle.dp_small_steps.proofs.TurnLaws.{bind-err, bind-ok}
 use Rattle.dp_step.specs.inner.Moves.{setting_at}
 use Rattle.dp_step.specs.inner.Innermost.{over}
-use Rattle.dp_step.proofs.Smalls.{moves_as}
-use Rattle.dp_step.proofs.TurnSteps.{last-found, leads-off, on-is, with-is}
+use Rattle.dp_step.proofs.Smalls.{leads-off, moves_as}
+use Rattle.dp_step.proofs.TurnSteps.{last-found, on-is, with-is}
 use Rattle.dp_step.proofs.machine.Machine.entry.Goals.{in_default-via-in-Some+in-Part+in-ForSignal+in_default}
 use Rattle.dp_step.proofs.machine.Machine.entry.Goals.{in_default-via-in-Some+in-Part+in_default}
 use Rattle.dp_step.proofs.machine.Machine.entry.Goals.{in_default-via-in-Some+in_default, in_default-via-in_default}

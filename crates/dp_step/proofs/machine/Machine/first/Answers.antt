@@ -1,7 +1,8 @@
 use Rattle.std.proofs.Common.{refl}
 use Rattle.dp_meaning.proofs.CallLaws.{setting-bundle}
+use Rattle.dp_small_steps.specs.Rest.{small_rest}
 use Rattle.dp_step.specs.inner.Moves.{follows_of, setting_at}
-use Rattle.dp_step.proofs.Smalls.{moves_off, moves_on}
+use Rattle.dp_step.proofs.Smalls.{leads-off, moves_on}
 use Rattle.dp_step.proofs.machine.Machine.first.Goals as goal
 
 pub returns-in-Ok : goal.returns-in-Ok
@@ -13,8 +14,8 @@ returns-in-Ok c =
 pub returns-in-Err : goal.returns-in-Err
 returns-in-Err c =
     let m = c.args.self.now in record {
-      by = moves_off (setting_at m) _ c.in-Err.why c.first_of.new.state (follows_of m) _ _ c.halted.ensures refl
-          (rw c.in-Err.is at (c.first_of.ensures (setting_at m) (setting-bundle m.bundle.now m.bound m.depth)));
+      by = leads-off (small_rest (setting_at m)) _ c.in-Err.why c.first_of.new.state (follows_of m) _ _ c.halted.ensures
+          refl (rw c.in-Err.is at (c.first_of.ensures (setting_at m) (setting-bundle m.bundle.now m.bound m.depth)));
       same_bundle = refl;
       same_bound = refl;
     }

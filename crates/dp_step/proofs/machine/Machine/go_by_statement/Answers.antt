@@ -10,3 +10,6 @@ returns-in-Each c = moves_hand c.args.self.now _ _ _ _ c.in-Each.is refl refl c.
 
 pub returns-in-Evaluate : goal.returns-in-Evaluate
 returns-in-Evaluate c = moves_hand c.args.self.now _ _ _ _ c.in-Evaluate.is refl refl c.evaluate_whole.ensures
+
+pub returns-in-Echo : goal.returns-in-Echo
+returns-in-Echo c = moves_hand c.args.self.now _ _ _ _ c.in-Echo.is refl refl c.echo.ensures

@@ -25,7 +25,7 @@ returns-then-at-as_slice c =
     moves_as m _ _ _ _ _ (on-is m below m.state m.pending.items _ c.requires.1
     ∙ rest-more m below m.state c.args.all.now c.args.at _ (from-member _ _ _ read.3.0 read.1)
     ∙ sym (with-is m below m.state _ (signal_work.Rest c.args.all (c.args.at + 1))
-    (c.put_position.ensures below c.args.all c.args.at c.requires.1)
+    (c.put_last.ensures below _ c.requires.1)
     (hand.Run c.in-Some.first))) refl refl c.put.ensures
 
 pub returns-else-at-as_slice : goal.returns-else-at-as_slice

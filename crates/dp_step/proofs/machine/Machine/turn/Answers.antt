@@ -15,4 +15,4 @@ pub returns-else-left-eq0 : goal.returns-else-left-eq0
 returns-else-left-eq0 c = λ below e.
     let m = c.args.self.now in
     moves_as m _ _ _ _ _ (turns-come m below m.state c.args.turns c.args.left (omega (arith, c.if-left-eq0.false)) _
-    (c.put_turn.ensures below c.args.turns c.args.left false e)) refl refl c.placed.ensures
+    (c.put_last.ensures below _ e)) refl refl c.placed.ensures

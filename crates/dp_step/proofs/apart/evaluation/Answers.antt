@@ -1,5 +1,5 @@
 use Rattle.dp_step.proofs.ApartLaws.{evaluation-comes}
-use Rattle.dp_step.proofs.apart.by_steps.Goals as goal
+use Rattle.dp_step.proofs.apart.evaluation.Goals as goal
 
 pub returns-in-Ok : goal.returns-in-Ok
 returns-in-Ok c =
