@@ -1,9 +1,4 @@
 //! A session of the engine that is recorded.
-ghost use Rattle.std.specs.Prelude.{◌≡◌, Some, IfOk, true};
-ghost use Rattle.dp_engine.specs.Session.{outcome_of, unwritten};
-ghost use Rattle.dp_state.specs.Statuses.{status};
-ghost use Rattle.dp_records.specs.Statuses.{is_status};
-
 use dp_conversation::Responder;
 use dp_engine::{Answer, Session, SessionEnd, Steps};
 use dp_records::Recorded;
@@ -59,39 +54,17 @@ impl<'s, 'a, L: Ledger> Recorded for Debugged<'s, 'a, L> {
 
     ghost ending_after = { ending_after };
 
-    /// The program runs on to its end, unless a command has killed it.
+    /// The program runs on to its end, unless a command has killed it. The session has an allocator of its own.
+    #[tactic(auto, using(crate::proofs::StatusLaws::ends_so))]
     fn close(
         self,
-        alloc: Global,
+        _alloc: Global,
         ended: Option<SessionEnd>,
     ) -> Result<(Bytes, Option<Outcome>), Memory>
         ensures rest { IfOk result (λ end. end.0 ≡ rest_after ended self.entry) }
         ensures outcome { IfOk result (λ end. end.1 ≡ ending_after ended self.entry) }
         ensures status { IfOk result (λ end. is_status (status end.1) ≡ true) }
     {
-        let Debugged { session, steps } = self;
-        match ended {
-            Some(SessionEnd::Killed) => {
-                drop(session);
-                Ok((Bytes::of(Vec::new(alloc)), None))
-            }
-            Some(SessionEnd::Detached) => run_to_end(session, steps),
-            Some(SessionEnd::Finished(_)) => run_to_end(session, steps),
-            None => run_to_end(session, steps),
-        }
+        self.session.finish_after(ended, self.steps)
     }
-}
-
-/// Runs the program on to its end.
-#[tactic(auto, using(crate::proofs::StatusLaws::ends_so))]
-fn run_to_end<L: Ledger>(
-    session: Session<'_>,
-    steps: &mut Steps<L>,
-) -> Result<(Bytes, Option<Outcome>), Memory>
-    ensures rest { IfOk result (λ end. end.0 ≡ unwritten session.entry) }
-    ensures outcome { IfOk result (λ end. end.1 ≡ Some (outcome_of session.entry)) }
-    ensures status { IfOk result (λ end. is_status (status end.1) ≡ true) }
-{
-    let (rest, outcome) = session.finish(steps)?;
-    Ok((rest, Some(outcome)))
 }

@@ -13,4 +13,5 @@ pub mod NewWrites
 pub mod StreamPackets
 pub mod ServiceLaws
 pub mod TurnLaws
+pub mod KeptLaws
 pub mod SentPackets

@@ -1,5 +1,6 @@
 -- A machine that goes on moment by moment finds the stop of its program, and counts the hits up to there.
-use Rattle.std.proofs.Common.{◌≡◌, ℕ, suc, ◌+◌, ◌<◌, ◌≤◌, Bool, true, false, cond, ◌||◌, List, [], ◌∷◌, drop, length, Option, Some, None, sym, ap, subst, ◌∙◌, arith}
+use Rattle.std.proofs.Common.{◌≡◌, ℕ, zero, suc, ◌+◌, ◌<◌, ◌≤◌, Bool, true, false, cond, ◌||◌, List, [], ◌∷◌, drop, length, Option, Some, None, sym, ap, subst, ◌∙◌, arith}
+use Rattle.std.proofs.lemmas.Option.{slice_get_within}
 use Rattle.dp_break.specs.declared.breakpoint.Breakpoint.{Breakpoint}
 use Rattle.dp_break.specs.StopRule.{Moments, found, held_after, one_stops}
 use Rattle.dp_break.specs.Tables.{Table}
@@ -15,10 +16,19 @@ use Rattle.dp_meaning_laws.proofs.Whole.{end-can, now-can, numbered}
 use Rattle.dp_step.specs.declared.machine.Machine.{Machine}
 use Rattle.dp_step.specs.Stands.{ComesTo, EndsWith, StandsFor}
 use Rattle.dp_step.proofs.LastMoments.{past-all}
+use Rattle.dp_step.proofs.MachineSteps.{of_image}
 use Rattle.dp_engine.specs.declared.reached.Reached.TheVariants as reached
-use Rattle.dp_engine.specs.NextStop.{Reaches, stop_past, table_past}
+use Rattle.dp_engine.specs.NextStop.{GoesOnTo, Reaches, stop_past, table_past}
 use Rattle.dp_engine.specs.Stops.{depth_of}
 use Rattle.dp_engine.proofs.Lists.{drop-at, drop-past}
+
+-- a machine that stands at a moment has passed no more than there are
+pub within_run : (bundle : Bundle) (bound : ℕ) (writes : List NumberedWrite) (n : ℕ) (m : Machine)
+    → StandsFor bundle bound writes n m → n ≤ length (program_trace bundle bound writes).moments
+within_run bundle bound writes zero m stands = omega arith
+within_run bundle bound writes (suc k) m stands =
+    let found = of_image _ _ _ stands.state in
+    let there = slice_get_within (program_trace bundle bound writes).moments k found.0 found.1 in omega (arith, there)
 
 module _ (mode : Moment → Bool) (bundle : Bundle) (bound : ℕ) (writes : List NumberedWrite) where
   abbrev moments : Moments
@@ -76,7 +86,7 @@ module _ (mode : Moment → Bool) (bundle : Bundle) (bound : ℕ) (writes : List
           counted = omega (arith, one, way.counted);
         }
 
-    pub counts-moment : after + n ≡ begun + moment.number
+    counts-moment : after + n ≡ begun + moment.number
     counts-moment =
         let number : moment.number ≡ suc way.at = (numbered bundle bound writes way.at here comes.0).0 in
         omega (arith, one, number, way.counted)
@@ -104,7 +114,7 @@ module _ (mode : Moment → Bool) (bundle : Bundle) (bound : ℕ) (writes : List
           ∙ ap (λ (l : List Breakpoint). record before { held = l })
           (found-held bundle mode before.held n (drop n moments))
 
-    pub reaches-of : 0 < length bundle.files → IsOf bundle new.state
+    reaches-of : 0 < length bundle.files → IsOf bundle new.state
     reaches-of some = (now-can bundle bound writes some (suc way.at) new.state comes.1.state).0
 
     -- the breakpoints were asked in the state of the moment, which is lent to them
@@ -121,13 +131,14 @@ module _ (mode : Moment → Bool) (bundle : Bundle) (bound : ℕ) (writes : List
       pub passes : b ≡ false → IsOnWay n before passed new begun after
       passes off = subst (λ (t : Table). IsOnWay n before t new begun after) (sym counts-here) (goes-past b is-here off)
 
-      pub reaches : b ≡ true
-          → Reaches bundle bound writes (stop_past mode bundle bound writes before.held n)
-          (reached.Moment moment.number moment.depth) new
-      reaches on = stops-there b is-here on
-
-      pub reaches-with : b ≡ true → passed ≡ table_past mode bundle bound writes before n
-      reaches-with on = counts-here ∙ stops-with b is-here on
+      pub goes-there : b ≡ true → GoesOnTo mode bundle bound writes before passed n
+          (reached.Moment moment.number moment.depth) new begun after
+      goes-there on = record {
+        reached = stops-there b is-here on;
+        breaks = counts-here ∙ stops-with b is-here on;
+        of = reaches-of;
+        counted = counts-moment;
+      }
 
   -- ---- the end
 
@@ -137,24 +148,20 @@ module _ (mode : Moment → Bool) (bundle : Bundle) (bound : ℕ) (writes : List
     over : found_past before.held n ≡ (None, table.held)
     over = way.found ∙ ap (found mode bundle table.held way.at) (drop-past way.at moments ends.0)
 
-    pub ends-there : Reaches bundle bound writes (stop_past mode bundle bound writes before.held n)
-        (reached.End end) new
-    ends-there = (
-      sym (found-stop bundle mode before.held n (drop n moments)) ∙ ap (λ (f : Option ℕ × List Breakpoint). f.0) over,
-      ends.1,
-      ends.2,
-    )
-
-    pub ends-with : table ≡ table_past mode bundle bound writes before n
-    ends-with =
-        (λ i. record { held = (sym over i).1; next = way.next i })
-        ∙ ap (λ (l : List Breakpoint). record before { held = l })
-        (found-held bundle mode before.held n (drop n moments))
-
-    pub ends-of : 0 < length bundle.files → IsOf bundle new.state
-    ends-of some = subst (IsOf bundle) (sym ends.2) (end-can bundle bound writes some).0
-
-    pub counts-end : (after : ℕ) → after ≡ steps + 0 → after + n ≡ begun + length moments
-    counts-end after none =
-        let least = past-all way.at moments ends.0 in
-        omega (arith, none, least, way.within, way.counted)
+    pub goes-out : (after : ℕ) → after ≡ steps + 0
+        → GoesOnTo mode bundle bound writes before table n (reached.End end) new begun after
+    goes-out after none = record {
+      reached = (
+        sym (found-stop bundle mode before.held n (drop n moments))
+            ∙ ap (λ (f : Option ℕ × List Breakpoint). f.0) over,
+        ends.1,
+        ends.2,
+      );
+      breaks =
+          (λ i. record { held = (sym over i).1; next = way.next i })
+          ∙ ap (λ (l : List Breakpoint). record before { held = l })
+          (found-held bundle mode before.held n (drop n moments));
+      of = λ some. subst (IsOf bundle) (sym ends.2) (end-can bundle bound writes some).0;
+      counted =
+          let least = past-all way.at moments ends.0 in omega (arith, none, least, way.within, way.counted);
+    }

@@ -14,9 +14,8 @@ use Rattle.dp_step.specs.declared.machine.Machine.{Machine}
 use Rattle.dp_step.specs.Stands.{ComesTo, EndsWith, StandsFor}
 use Rattle.dp_engine.specs.declared.reached.Reached.TheVariants as reached
 use Rattle.dp_engine.specs.NextStop.{PassesOne, every}
-use Rattle.dp_engine.proofs.MachineStops.{IsPast, counts-end, counts-moment, ends-of, ends-there, ends-with, reaches, reaches-of, reaches-with}
+use Rattle.dp_engine.proofs.MachineStops.{IsPast, goes-out, goes-there, within_run}
 use Rattle.dp_engine.proofs.StopMoments.{next_stop}
-use Rattle.dp_engine.proofs.UnseenMoments.{within-start}
 
 module _ (mode : Moment → Bool) (bundle : Bundle) (bound : ℕ) (writes : List NumberedWrite) (n : ℕ) (table : Table)
   where
@@ -26,7 +25,7 @@ module _ (mode : Moment → Bool) (bundle : Bundle) (bound : ℕ) (writes : List
     module _ (old : Machine) (stands : StandsFor bundle bound writes n old) (begun : ℕ) where
       abbrev way : (test : Moment → Bool) → IsPast test bundle bound writes n table table begun begun
       way test =
-          let few : n ≤ length moments = within-start test bundle bound writes n old stands in
+          let few : n ≤ length moments = within_run bundle bound writes n old stands in
           record { at = n; within = few; next = refl; found = refl; counted = refl }
 
       -- a moment comes
@@ -37,15 +36,10 @@ module _ (mode : Moment → Bool) (bundle : Bundle) (bound : ℕ) (writes : List
           → PassesOne mode bundle bound writes table left n
           (record { reached = reached.Moment moment.number moment.depth; stops = stops }) new begun after
       passes_moment moment new comes after one lent same left counts stops is = record {
-        reached = reaches every bundle bound writes n table table begun begun (way every) moment new comes after one
+        goes = goes-there every bundle bound writes n table table begun begun (way every) moment new comes after one
             lent same left counts true refl refl;
         stops = next_stop mode bundle n moments table.held (moment, new.state) comes.0 stops
             (is ∙ ap (λ (s : State). mode moment || one_stops bundle table.held [] (moment, s)) same);
-        breaks = reaches-with every bundle bound writes n table table begun begun (way every) moment new comes after one
-            lent same left counts true refl refl;
-        of = reaches-of every bundle bound writes n table table begun begun (way every) moment new comes after one;
-        counted = counts-moment every bundle bound writes n table table begun begun (way every) moment new comes after
-            one;
       }
 
       -- or the end
@@ -54,10 +48,7 @@ module _ (mode : Moment → Bool) (bundle : Bundle) (bound : ℕ) (writes : List
           → PassesOne mode bundle bound writes table table n (record { reached = reached.End end; stops = false }) new
           begun after
       passes_end end new ends after none = record {
-        reached = ends-there every bundle bound writes n table table begun begun (way every) end new ends;
+        goes = goes-out every bundle bound writes n table table begun begun (way every) end new ends after none;
         stops = sym (ap (λ (stop : Option ℕ). option_map_or (λ (s : ℕ). s == n + 1) stop false)
-            (ends-there mode bundle bound writes n table table begun begun (way mode) end new ends).0);
-        breaks = ends-with every bundle bound writes n table table begun begun (way every) end new ends;
-        of = ends-of every bundle bound writes n table table begun begun (way every) end new ends;
-        counted = counts-end every bundle bound writes n table table begun begun (way every) end new ends after none;
+            (goes-out mode bundle bound writes n table table begun begun (way mode) end new ends after none).reached.0);
       }

@@ -1,5 +1,5 @@
 -- A continuation that is passed moment by moment comes to where it goes on to at once.
-use Rattle.std.proofs.Common.{◌≡◌, ◌≢◌, ℕ, zero, suc, ◌+◌, ◌<◌, ◌≤◌, Bool, true, false, cond, ◌||◌, List, [], ◌∷◌, drop, length, Option, Some, None, refl, sym, ap, ◌∙◌, arith}
+use Rattle.std.proofs.Common.{◌≡◌, ◌≢◌, ℕ, zero, suc, ◌+◌, ◌≤◌, Bool, true, false, cond, ◌||◌, List, [], ◌∷◌, drop, length, Option, Some, None, refl, sym, ap, ◌∙◌, arith}
 use Rattle.std.specs.Prelude.{option_and_then, slice_get}
 use Rattle.std.proofs.lemmas.Option.{slice_get_within}
 use Rattle.dp_break.specs.declared.breakpoint.Breakpoint.{Breakpoint}
@@ -18,12 +18,12 @@ use Rattle.dp_engine.specs.declared.states.Phase.TheVariants.{Starting, Break, S
 use Rattle.dp_engine.specs.Answers.{moved}
 use Rattle.dp_engine.specs.NextStop.{every, stop_past, stops_next, table_past}
 use Rattle.dp_engine.specs.Passed.{StopsPast, passed_all}
-use Rattle.dp_engine.specs.Passes.{departing, going_by, passed, passed_by, passed_on, passing, passing_at, passing_by, passing_on}
+use Rattle.dp_engine.specs.Passes.{departing, going_by, passed, passed_by, passed_on, passing_at, passing_by, passing_on}
 use Rattle.dp_engine.specs.Refusals.{refusal_of_line}
 use Rattle.dp_engine.specs.Session.{State, depth_at, trace_of}
 use Rattle.dp_engine.specs.Stops.{stops}
 use Rattle.dp_engine.proofs.Lists.{drop-past}
-use Rattle.dp_engine.proofs.StopMoments.{found_next, next_stop, stop_is, stop_is_there}
+use Rattle.dp_engine.proofs.StopMoments.{found_next, next_stop}
 
 -- ---- one moment
 
@@ -140,19 +140,6 @@ module _ (mode : Continuation) (depth : ℕ) (state : State) where
           ∙ come_again state left (state.moment + 1) later ∙ sym (goes false e),
     )
 
-    -- and then it stops where it did, past that moment
-    stops_as_before : false ≡ here → stop_by test (passed_on state) ≡ stop_by test state
-    stops_as_before e =
-        ap (stop_by test) comes
-        ∙ sym (stop_is test state.bundle state.moment (moments_of state) state.breaks.held at is false e
-        ∙ found-stop state.bundle test left (state.moment + 1) (drop (state.moment + 1) (moments_of state)))
-
-    stops_above : false ≡ here → (n : ℕ) → stop_by test state ≡ Some n → state.moment + 1 < n
-    stops_above e n is_stop =
-        let past = ap (stop_by test) (sym comes) ∙ stops_as_before e ∙ is_stop in
-        let place = stop_is_there test state.bundle left (state.moment + 1) (moments_of state) n past in
-        omega (arith, place.2, place.3)
-
 -- What one moment comes to: the program does not go on there, and it stands where it goes on to at
 -- once; or it goes on, the way from there comes to the same, and a moment has come.
 pub data Comes (mode : Continuation) (depth : ℕ) (state : State) : Type 0 where
@@ -198,51 +185,6 @@ pub still_before : (state next : State) (left : List Breakpoint) → next ≡ co
     → next.phase ≢ Stopping
 still_before state next left e f =
     let no : Break ≡ Stopping = sym (ap (λ (s : State). s.phase) e) ∙ f in absurd cc
-
--- a moment at which it goes on comes before the end
-pub on_before : (phase : Phase) (mode : Continuation) (depth : ℕ) (state : State)
-    → passing_by phase mode depth state ≡ On → phase ≢ Stopping
-on_before Starting mode depth state e over = cc
-on_before Break mode depth state e over = cc
-on_before Stopping mode depth state e over = let no : End ≡ On = e in cc
-
--- ---- where it stops, from a moment at which it goes on
-
-module _ (mode : Continuation) (depth : ℕ) (state : State) (is_on : passing mode depth state ≡ On) where
-  before_end : state.phase ≢ Stopping
-  before_end = on_before state.phase mode depth state is_on
-
-  on_at_once : passing_on mode depth state ≡ On
-  on_at_once = sym (passing_before state.phase mode depth state before_end) ∙ is_on
-
-  -- a moment comes, at which nothing stops
-  abbrev ComesBy : Type 0
-  ComesBy =
-      (at : Moment × Program)
-      × (slice_get (moments_of state) state.moment ≡ Some at)
-      × (false ≡ (stops mode depth at.0 || one_stops state.bundle state.breaks.held [] at))
-
-  comes_by : ComesBy
-  comes_by = by (slice_get (moments_of state) state.moment) refl where
-    by_test : (at : Moment × Program) (is : slice_get (moments_of state) state.moment ≡ Some at) (b : Bool)
-        → b ≡ (stops mode depth at.0 || one_stops state.bundle state.breaks.held [] at) → ComesBy
-    by_test at is true e =
-        let no : Stop ≡ On = sym (stops_there mode depth state at is e).0 ∙ on_at_once in absurd cc
-    by_test at is false e = (at, is, e)
-
-    by : (o : Option (Moment × Program)) → slice_get (moments_of state) state.moment ≡ o → ComesBy
-    by None e = let no : End ≡ On = sym (ends mode depth state e) ∙ on_at_once in absurd cc
-    by (Some at) e = by_test at e _ refl
-
-  -- past that moment it stops where it does from before
-  pub stop_stays : stop_by (stops mode depth) (passed state) ≡ stop_by (stops mode depth) state
-  stop_stays =
-      ap (stop_by (stops mode depth)) (passed_before state.phase state before_end)
-      ∙ stops_as_before mode depth state comes_by.0 comes_by.1 comes_by.2
-
-  -- and that is above the moment
-  pub stop_is_above : (n : ℕ) → stop_by (stops mode depth) state ≡ Some n → state.moment + 1 < n
-  stop_is_above n e = stops_above mode depth state comes_by.0 comes_by.1 comes_by.2 n e
 
 -- ---- moment after moment
 

@@ -1,19 +1,16 @@
 -- Turns as the code makes them.
-use Rattle.std.proofs.Common.{arith, ◌≡◌, ◌≢◌, ℕ, zero, suc, ◌+◌, ◌<◌, ◌≤◌, Bool, true, false, cond, not, List, [], ◌∷◌, drop, length, Option, Some, None, Result, Ok, Err, refl, sym, ap, subst, ◌∙◌}
+use Rattle.std.proofs.Common.{arith, ◌≡◌, ℕ, ◌<◌, ◌≤◌, Bool, true, false, cond, not, List, [], ◌∷◌, drop, length, Option, Some, None, Result, Ok, Err, refl, sym, ap, subst, ◌∙◌}
 use Rattle.std.specs.Prelude.{if◌then◌else◌, map, option_map, unwrap_or, IfOk, IsFalse, IsTrue, MatchResult}
 use Rattle.std.specs.Option.{option_map_or}
 use Rattle.std.proofs.lemmas.Bool.{le-leb}
 use Rattle.std.proofs.lemmas.List.{length-map}
-use Rattle.std.proofs.lemmas.Option.{slice_get_within}
 use Rattle.dp_wire.specs.Frames.{packet_limit}
 use Rattle.dp_tree.specs.declared.bundle.Bundle.{Bundle}
 use Rattle.dp_tree.specs.FileNames.{AreFileNames}
 use Rattle.dp_break.specs.Tables.{Table}
 use Rattle.dp_break.specs.Commands.{breakpoint_refusal, breakpoint_response, breakpoint_table}
 use Rattle.dp_break.specs.Notices.{breakpoint_notice}
-use Rattle.dp_command.specs.declared.command.Continuation.{Continuation}
 use Rattle.dp_command.specs.declared.command.Command.{Command}
-use Rattle.dp_command.specs.declared.command.StreamMode.{StreamMode}
 use Rattle.dp_command.specs.declared.command.BreakpointRequest.{BreakpointRequest}
 use Rattle.dp_command.specs.declared.command.LookRequest.{LookRequest}
 use Rattle.dp_command.specs.declared.command.Request.{Request}
@@ -29,15 +26,9 @@ use Rattle.dp_command.specs.declared.line.Line.{Line}
 use Rattle.dp_command.specs.declared.names.CommandName.{CommandName}
 use Rattle.dp_command.specs.Names.{name_of}
 use Rattle.dp_command.specs.Refusals.{admission_refusal, code_of, coded, fits_row, holds_of, id_of}
-use Rattle.dp_engine.specs.NextStop.{every, stop_past, table_past}
-use Rattle.dp_engine.specs.Passes.{passed_on}
-use Rattle.dp_engine.specs.Stops.{stops}
-use Rattle.dp_engine.proofs.StopMoments.{stop_is_there}
-use Rattle.dp_features.specs.Features.{Features, resolves}
-use Rattle.dp_meaning.specs.declared.writes.NumberedWrite.{NumberedWrite}
+use Rattle.dp_features.specs.Features.{resolves}
 use Rattle.dp_meaning.specs.declared.writes.Write.{Write as ProgramWrite}
-use Rattle.dp_meaning.specs.Trace.{now, outcome, program_trace}
-use Rattle.dp_meaning_laws.proofs.Whole.{end-can, now-can}
+use Rattle.dp_meaning.specs.Trace.{now}
 use Rattle.dp_packet.specs.declared.error_codes.ErrorCode.{ErrorCode}
 use Rattle.dp_packet.specs.declared.error_codes.ErrorCode.TheVariants.{DuplicateArguments, InvalidOptions, UnimplementedCommand, CommandNotAvailable}
 use Rattle.dp_packet.specs.declared.packet.Notify.{Notify}
@@ -47,31 +38,23 @@ use Rattle.dp_packet.specs.declared.packet.Packet.TheVariants as packet
 use Rattle.dp_packet.specs.Packets.{HasMessage}
 use Rattle.dp_packet.specs.Parts.{Text}
 use Rattle.dp_packet.specs.Text.{text}
-use Rattle.dp_state.specs.declared.moments.Moment.{Moment}
-use Rattle.dp_state.specs.declared.moments.Outcome.{Outcome}
 use Rattle.dp_state.specs.declared.state.State.{State as Program_state}
-use Rattle.dp_state.specs.States.{IsOf, file_of, opening as first_state}
-use Rattle.dp_step.specs.declared.machine.Machine.{Machine}
-use Rattle.dp_step.specs.Stands.{StandsFor}
-use Rattle.dp_step.proofs.MachineSteps.{of_image}
+use Rattle.dp_state.specs.States.{file_of, opening as first_state}
 use Rattle.dp_view_commands.specs.Views.{code_in, view_refusal, view_response}
 use Rattle.dp_write_commands.specs.Requests.{requested_write}
 use Rattle.dp_write_commands.specs.Responses.{code_in as code_written, write_refusal, write_response}
 use Rattle.dp_engine.specs.declared.session.SessionEnd.{SessionEnd}
-use Rattle.dp_engine.specs.declared.session.SessionEnd.TheVariants.{Finished}
 use Rattle.dp_engine.specs.declared.states.Phase.{Phase}
 use Rattle.dp_engine.specs.declared.states.Phase.TheVariants as phase
-use Rattle.dp_engine.specs.declared.states.Position.{Position}
 use Rattle.dp_engine.specs.declared.states.Position.TheVariants.{Starting, Break, Stopping}
 use Rattle.dp_engine.specs.declared.replies.Turn.{Turn as Made}
-use Rattle.dp_engine.specs.Answers.{Turn, breakpoints_done, end_by_stop, gone_on, in_packet, kept_if, moved, performed, refused, response_in, shown, turn_by_command, turn_of, with_write, written}
+use Rattle.dp_engine.specs.Answers.{Turn, breakpoints_done, in_packet, kept_if, performed, refused, response_in, shown, turn_by_command, turn_of, with_write, written}
 use Rattle.dp_engine.specs.Refusals.{of_command, own_tests, refusal_of_line, row_tests, tests}
 use Rattle.dp_engine.specs.Responses.{fault_response, response as response_of, response_text}
-use Rattle.dp_engine.specs.Session.{State, here, moments_by, moments_so_far, output_by, output_so_far, program_by, program_of, steps_between, steps_left, unwritten, whole_output}
+use Rattle.dp_engine.specs.Session.{State, here, output_by, output_so_far, program_by, program_of, unwritten, whole_output}
 use Rattle.dp_engine.specs.States.{allows}
-use Rattle.dp_engine.specs.inner.KeptWrites.{IsKeptWrite}
 use Rattle.dp_engine.specs.inner.Sizes.{Fits}
-use Rattle.dp_engine.specs.inner.Position.{IsAt, IsDeep, end_of, known, phase_of}
+use Rattle.dp_engine.specs.inner.Position.{known}
 use Rattle.dp_engine.specs.Wishes.{wishes_of}
 use Rattle.dp_engine.specs.inner.Turns.{IsTimely, IsTurn, ReadsCommand, Responds, Tells, answered, answered_by}
 use Rattle.dp_engine.proofs.RefusalLaws.{first_for, writes_at_break}
@@ -351,179 +334,3 @@ pub rest_is : (state : State) (program : Program_state) (shown : ℕ) (rest : Li
 rest_is state program shown rest is n h =
     h ∙ ap (λ (k : ℕ). drop k (whole_output state)) (n ∙ ap (λ (p : Program_state). length p.output) is
     ∙ ap length (sym (output_is state)))
-
--- a machine that stands at a moment has passed no more than there are
-pub within : (bundle : Bundle) (bound : ℕ) (writes : List NumberedWrite) (n : ℕ) (m : Machine)
-    → StandsFor bundle bound writes n m → n ≤ length (program_trace bundle bound writes).moments
-within bundle bound writes zero m stands = omega arith
-within bundle bound writes (suc k) m stands =
-    let found = of_image _ _ _ stands.state in
-    let there = slice_get_within (program_trace bundle bound writes).moments k found.0 found.1 in omega (arith, there)
-
--- ---- what a session keeps
-
-module _ (bundle : Bundle) (bound : ℕ) (writes : List NumberedWrite) (moment : ℕ) (position : Position)
-    (features : Features) (stdout : StreamMode) (breaks : Table) (failed : Bool) (machine : Machine) where
-  abbrev state : State
-  state = known bundle bound writes moment position features stdout breaks failed
-
-  abbrev Kept : Type 0
-  Kept = IsAt failed position bundle bound writes moment machine
-
-  -- its program is the one of the machine
-  pub program_is : failed ≡ false → Kept → machine.state ≡ program_of state
-  program_is whole h = by position h where
-    by : (s : Position) → IsAt failed s bundle bound writes moment machine
-        → machine.state ≡ program_of (known bundle bound writes moment s features stdout breaks failed)
-    by Starting h = sym (ap (λ (o : Option Program_state). unwrap_or o (first_state bundle)) (h whole).state)
-    by Break h = sym (ap (λ (o : Option Program_state). unwrap_or o (first_state bundle)) (h.1 whole).state)
-    by (Stopping end) h = h.1
-
-  pub program_can : failed ≡ false → 0 < length bundle.files → Kept → IsOf bundle machine.state
-  program_can whole some h = by position h where
-    by : (s : Position) → IsAt failed s bundle bound writes moment machine → IsOf bundle machine.state
-    by Starting h = (now-can bundle bound writes some moment machine.state (h whole).state).0
-    by Break h = (now-can bundle bound writes some moment machine.state (h.1 whole).state).0
-    by (Stopping end) h = subst (IsOf bundle) (sym h.1) (end-can bundle bound writes some).0
-
-  -- before the end it stands at the moment
-  pub machine_there : failed ≡ false → phase_of position ≢ phase.Stopping → Kept
-      → StandsFor bundle bound writes moment machine
-  machine_there whole before h = by position before h where
-    by : (s : Position) → phase_of s ≢ phase.Stopping → IsAt failed s bundle bound writes moment machine
-        → StandsFor bundle bound writes moment machine
-    by Starting n h = h whole
-    by Break n h = h.1 whole
-    by (Stopping end) n h = absurd (n refl)
-
-  -- that is as many moments as have come
-  moments_are : phase_of position ≢ phase.Stopping → moments_so_far state ≡ moment
-  moments_are before = by position before where
-    by : (s : Position) → phase_of s ≢ phase.Stopping → moments_by (phase_of s) bundle bound writes moment ≡ moment
-    by Starting n = refl
-    by Break n = refl
-    by (Stopping end) n = absurd (n refl)
-
-  -- once it has failed, nothing is said of the machine
-  pub nothing_kept : (left : Machine) → phase_of position ≢ phase.Stopping → Kept
-      → IsAt true position bundle bound writes moment left
-  nothing_kept left before h = by position before h where
-    by : (s : Position) → phase_of s ≢ phase.Stopping → IsAt failed s bundle bound writes moment machine
-        → IsAt true s bundle bound writes moment left
-    by Starting n h = λ e. absurd cc
-    by Break n h = (h.0, λ e. absurd cc)
-    by (Stopping end) n h = absurd (n refl)
-
-  -- nor of one that has failed and was left as it was
-  pub still_kept : Kept → IsAt true position bundle bound writes moment machine
-  still_kept h = by position h where
-    by : (s : Position) → IsAt failed s bundle bound writes moment machine
-        → IsAt true s bundle bound writes moment machine
-    by Starting h = λ e. absurd cc
-    by Break h = (h.0, λ e. absurd cc)
-    by (Stopping end) h = h
-
-  -- ---- the program goes on
-
-  module _ (depth : ℕ) (deep : IsDeep bundle bound writes moment depth) (mode : Continuation) where
-    abbrev stop_from : ℕ → Option ℕ
-    stop_from d = stop_past (stops mode d) bundle bound writes breaks.held moment
-
-    abbrev table_from : ℕ → Table
-    table_from d = table_past (stops mode d) bundle bound writes breaks moment
-
-    -- to a moment
-    pub goes_to : (number : ℕ) (left : Table) → stop_from depth ≡ Some number → left ≡ table_from depth
-        → known bundle bound writes number Break features stdout left failed ≡ gone_on mode state
-    goes_to number left stop is =
-        λ i. moved (record state { breaks = (is ∙ ap table_from deep) i }) ((sym stop ∙ ap stop_from deep) i)
-
-    -- to the end
-    pub goes_out : (end : Outcome) (left : Table) → stop_from depth ≡ None → end ≡ outcome bundle bound writes
-        → left ≡ table_from depth
-        → known bundle bound writes 0 (Stopping end) features stdout left failed ≡ gone_on mode state
-    goes_out end left stop ends is =
-        ap (λ (o : Outcome). known bundle bound writes 0 (Stopping o) features stdout left failed) ends
-        ∙ (λ i. moved (record state { breaks = (is ∙ ap table_from deep) i }) ((sym stop ∙ ap stop_from deep) i))
-
-  -- a stop is at a later moment
-  pub comes_later : (test : Moment → Bool) (number : ℕ)
-      → stop_past test bundle bound writes breaks.held moment ≡ Some number → moment < number
-  comes_later test number stop =
-      let there = stop_is_there test bundle breaks.held moment (program_trace bundle bound writes).moments number stop
-      in
-      omega (arith, there.2, there.3)
-
-  -- one moment comes
-  pub passes_to : (number : ℕ) (left : Table) → stop_past every bundle bound writes breaks.held moment ≡ Some number
-      → left ≡ table_past every bundle bound writes breaks moment
-      → known bundle bound writes number Break features stdout left failed ≡ passed_on state
-  passes_to number left stop is = λ i. moved (record state { breaks = is i }) (sym stop i)
-
-  -- or the end
-  pub passes_out : (end : Outcome) (left : Table) → stop_past every bundle bound writes breaks.held moment ≡ None
-      → end ≡ outcome bundle bound writes → left ≡ table_past every bundle bound writes breaks moment
-      → known bundle bound writes 0 (Stopping end) features stdout left failed ≡ passed_on state
-  passes_out end left stop ends is =
-      ap (λ (o : Outcome). known bundle bound writes 0 (Stopping o) features stdout left failed) ends
-      ∙ (λ i. moved (record state { breaks = is i }) (sym stop i))
-
-  -- the steps on the way
-  pub counts_to : (before after number : ℕ) (left : Table) → phase_of position ≢ phase.Stopping → moment < number
-      → after + moment ≡ before + number
-      → after ≡ before + steps_between state (known bundle bound writes number Break features stdout left failed)
-  counts_to before after number left n later counted = omega (arith, moments_are n, later, counted)
-
-  pub counts_out : (before after : ℕ) (end : Outcome) (left : Table) → phase_of position ≢ phase.Stopping
-      → StandsFor bundle bound writes moment machine
-      → after + moment ≡ before + length (program_trace bundle bound writes).moments
-      → after ≡ before + steps_between state (known bundle bound writes 0 (Stopping end) features stdout left failed)
-  counts_out before after end left n stands counted =
-      omega (arith, moments_are n, within bundle bound writes moment machine stands, counted)
-
-  pub counts_left : (before after : ℕ) → phase_of position ≢ phase.Stopping
-      → StandsFor bundle bound writes moment machine
-      → after + moment ≡ before + length (program_trace bundle bound writes).moments → after ≡ before + steps_left state
-  counts_left before after n stands counted =
-      omega (arith, moments_are n, within bundle bound writes moment machine stands, counted)
-
-  -- ---- a write is kept
-
-  abbrev with_kept : List NumberedWrite → State
-  with_kept kept = known bundle bound kept moment position features stdout breaks failed
-
-  pub write_turn : {E : Type 0} (after : Program_state) (kept : List NumberedWrite) (command id : Text)
-      (r : WriteRequest) (response : Response) (made : Result Made E)
-      → machine.state ≡ program_of state
-      → IsKeptWrite bundle features machine.state after writes kept moment command id r response
-      → IfOk made (Responds response None)
-      → IfOk made (IsTurn (answered command id (Write r) state) (with_kept kept))
-  write_turn after kept command id r response made same is t =
-      write_responds state (with_kept kept) command id r is.write response made
-      (ap (λ (p : Program_state). write_response bundle features p command id r) (sym same) ∙ is.answered)
-      (ap (λ (p : Program_state). requested_write p r) (sym same) ∙ is.asks)
-      (ap with_kept is.list) t
-
-  pub write_is_refused : (command id : Text) (r : WriteRequest) (code : ErrorCode) → machine.state ≡ program_of state
-      → write_response bundle features machine.state command id r ≡ Err code
-      → first_code (own_tests state command id (Write r)) ≡ Some code
-  write_is_refused command id r code same e =
-      write_refused state command id r code (ap (λ (p : Program_state). write_response bundle features p command id
-      r) (sym same) ∙ e)
-
-  -- in a break no moment has come by that
-  pub write_stays : (kept : List NumberedWrite) → phase_of position ≡ phase.Break
-      → moments_so_far (with_kept kept) ≡ moments_so_far state
-  write_stays kept at =
-      ap (λ (p : Phase). moments_by p bundle bound kept moment) at
-      ∙ sym (ap (λ (p : Phase). moments_by p bundle bound writes moment) at)
-
--- how a session ends that is stopped
-pub stops_so : (failed : Bool) (position : Position) (bundle : Bundle) (bound : ℕ) (writes : List NumberedWrite)
-    (moment : ℕ) (machine : Machine) (features : Features) (stdout : StreamMode) (breaks : Table)
-    → IsAt failed position bundle bound writes moment machine
-    → end_of position ≡ end_by_stop (phase_of position) (known bundle bound writes moment position features stdout
-    breaks failed)
-stops_so failed Starting bundle bound writes moment machine features stdout breaks h = refl
-stops_so failed Break bundle bound writes moment machine features stdout breaks h = refl
-stops_so failed (Stopping end) bundle bound writes moment machine features stdout breaks h = ap Finished h.0

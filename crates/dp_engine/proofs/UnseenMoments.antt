@@ -1,15 +1,16 @@
 -- Moments at which nobody looks change no breakpoint and stop no program.
-use Rattle.std.proofs.Common.{◌≡◌, ℕ, zero, suc, ◌+◌, ◌≤◌, Bool, true, false, cond, not, if◌then◌else◌, ◌&&◌, ◌||◌, List, [], ◌∷◌, drop, length, map, Option, Some, None, refl, sym, ap, ◌∙◌, subst, arith}
+use Rattle.std.proofs.Common.{◌≡◌, ℕ, zero, suc, ◌+◌, ◌≤◌, Bool, true, false, cond, not, if◌then◌else◌, ◌&&◌, ◌||◌, List, [], ◌∷◌, drop, length, Option, Some, None, refl, sym, ap, ◌∙◌, subst, arith}
+use Rattle.std.proofs.lemmas.Bool.{and_parts, and_right}
 use Rattle.std.proofs.lemmas.Bool.Decides.{nat_tests}
 use Rattle.std.proofs.lemmas.Option.{slice_get_within}
 use Rattle.std.specs.List.{list_any}
 use Rattle.std.specs.Option.{option_map_or}
-use Rattle.std.specs.Prelude.{◌==◌, count_by, filter}
+use Rattle.std.specs.Prelude.{◌==◌}
 use Rattle.dp_break.specs.declared.breakpoint.Breakpoint.{Breakpoint}
 use Rattle.dp_break.specs.Hits.{awaits, hits, is_met_by, is_named_by, is_of_function, is_place_of, is_true_in}
-use Rattle.dp_break.specs.StopRule.{after, found, held_after, is_there_after, one_stops, stops_at, with_more}
+use Rattle.dp_break.specs.StopRule.{found, held_after, one_stops}
 use Rattle.dp_break.specs.Tables.{Table}
-use Rattle.dp_break.proofs.CountLaws.{with_more-zero}
+use Rattle.dp_break.proofs.Settled.{no_hit-held, no_hit-stops}
 use Rattle.dp_packet.specs.declared.packet.BreakKind.{BreakKind}
 use Rattle.dp_packet.specs.declared.packet.BreakKind.TheVariants.{Line, Call, Return, Conditional}
 use Rattle.dp_tree.specs.declared.bundle.Bundle.{Bundle}
@@ -26,10 +27,9 @@ use Rattle.dp_step.specs.declared.machine.Machine.{Machine}
 use Rattle.dp_step.specs.declared.machine.Progress.{Progress}
 use Rattle.dp_step.specs.Past.{ArePassed, GoesPast, IsPassed}
 use Rattle.dp_step.specs.Stands.{GoesOn, StandsFor, steps_of}
-use Rattle.dp_step.proofs.MachineSteps.{of_image}
 use Rattle.dp_engine.specs.inner.Unseen.{AreUnseen, GoesUnseen, are_covered, is_covered}
 use Rattle.dp_engine.proofs.Lists.{drop-at}
-use Rattle.dp_engine.proofs.MachineStops.{IsOnWay, IsPast}
+use Rattle.dp_engine.proofs.MachineStops.{IsOnWay, IsPast, within_run}
 
 -- ---- breakpoints that are on some lines
 
@@ -41,10 +41,6 @@ module _ (lines : List ℕ) (calls : Bool) where
       let off : not (is_free lines line) ≡ true = ap (λ (n : ℕ). not (is_free lines n)) (sym same) ∙ on in
       let no : not true ≡ true = ap not (sym free) ∙ off in absurd (cc)
   apart given line on free false is = refl
-
-  and-off : (a b : Bool) → b ≡ false → (a && b) ≡ false
-  and-off true b e = e
-  and-off false b e = refl
 
   on-line : (line : Option ℕ) (at : ℕ) → option_map_or (λ l. not (is_free lines l)) line false ≡ true
       → is_free lines at ≡ true → is_met_by line at ≡ false
@@ -58,7 +54,7 @@ module _ (lines : List ℕ) (calls : Bool) where
       → (if is_of_function kind then not calls else option_map_or (λ l. not (is_free lines l)) line false) ≡ true
       → is_unwatched lines calls moment at ≡ true
       → (awaits kind moment && file && (if is_of_function kind then function else is_met_by line at)) ≡ false
-  off-place Line moment.Place file function line at covered free = and-off file _ (on-line line at covered free)
+  off-place Line moment.Place file function line at covered free = and_right file _ (on-line line at covered free)
   off-place Line moment.Enter file function line at covered free = refl
   off-place Line moment.Leave file function line at covered free = refl
   off-place Call moment.Place file function line at covered free = refl
@@ -68,7 +64,7 @@ module _ (lines : List ℕ) (calls : Bool) where
   off-place Return moment.Enter file function line at covered free = refl
   off-place Return moment.Leave file function line at covered free = absurd (on-function free covered)
   off-place Conditional moment.Place file function line at covered free =
-      and-off file _ (on-line line at covered free)
+      and_right file _ (on-line line at covered free)
   off-place Conditional moment.Enter file function line at covered free = refl
   off-place Conditional moment.Leave file function line at covered free = refl
 
@@ -93,16 +89,11 @@ module _ (lines : List ℕ) (calls : Bool) where
           at.0.line covered passed in
           no-hit b.enabled (is_place_of b at.0) (option_map_or (λ e. is_true_in bundle e at.1) b.parsed true) off
 
-  both : (a b : Bool) → (a && b) ≡ true → (a ≡ true) × (b ≡ true)
-  both true true e = (refl, refl)
-  both true false e = absurd (cc)
-  both false b e = absurd (cc)
-
   none-hits : (bundle : Bundle) (at : Moment × State) (held : List Breakpoint) → IsPassed lines calls at.0
       → are_covered lines calls held ≡ true → list_any (hits bundle at) held ≡ false
   none-hits bundle at [] passed covered = refl
   none-hits bundle at (b ∷ held) passed covered =
-      let parts = both (is_covered lines calls b) (are_covered lines calls held) covered in
+      let parts = and_parts (is_covered lines calls b) (are_covered lines calls held) covered in
       ap (λ (t : Bool). t || list_any (hits bundle at) held) (unhit bundle at b passed parts.0)
       ∙ none-hits bundle at held passed parts.1
 
@@ -153,46 +144,6 @@ steps-unseen mode bundle bound writes held n came m begun steps goes counted =
       counted = omega (arith, counted);
     }
 
--- ---- one moment at which no breakpoint hits
-
-module _ (bundle : Bundle) (at : Moment × State) where
-  unhit-stops : (b : Breakpoint) → hits bundle at b ≡ false → stops_at bundle [] at b ≡ false
-  unhit-stops b off = rw off refl
-
-  unhit-stays : (b : Breakpoint) → hits bundle at b ≡ false → after bundle (at ∷ []) b ≡ b
-  unhit-stays b off = ap (λ (k : ℕ). with_more k b) (none off) ∙ with_more-zero b
-    where
-      none : hits bundle at b ≡ false → count_by (λ at. hits bundle at b) (at ∷ []) ≡ 0
-      none off = rw off refl
-
-  unhit-there : (b : Breakpoint) → hits bundle at b ≡ false → is_there_after bundle (at ∷ []) b ≡ true
-  unhit-there b off = rw (unhit-stops b off) refl
-
-  neither : (a b : Bool) → (a || b) ≡ false → (a ≡ false) × (b ≡ false)
-  neither true b e = absurd (cc)
-  neither false b e = (refl, e)
-
-  and-none : (b : Bool) → (b && false) ≡ false
-  and-none true = refl
-  and-none false = refl
-
-  unhit-all : (held : List Breakpoint) → list_any (hits bundle at) held ≡ false
-      → held_after bundle (at ∷ []) held ≡ held
-  unhit-all [] off = refl
-  unhit-all (b ∷ held) off =
-      let parts = neither (hits bundle at b) (list_any (hits bundle at) held) off in
-      ap (λ (t : Bool). map (after bundle (at ∷ [])) (cond t (b ∷ filter (is_there_after bundle (at ∷ [])) held)
-      (filter (is_there_after bundle (at ∷ [])) held))) (unhit-there b parts.0)
-      ∙ (λ i. unhit-stays b parts.0 i ∷ unhit-all held parts.1 i)
-
-  none-stops : (held : List Breakpoint) → list_any (hits bundle at) held ≡ false → one_stops bundle held [] at ≡ false
-  none-stops [] off = refl
-  none-stops (b ∷ held) off =
-      let parts = neither (hits bundle at b) (list_any (hits bundle at) held) off in
-      ap (λ (t : Bool). (is_there_after bundle [] b && t) || one_stops bundle held [] at) (unhit-stops b parts.0)
-      ∙ ap (λ (t : Bool). t || one_stops bundle held [] at) (and-none (is_there_after bundle [] b))
-      ∙ none-stops held parts.1
-
 -- ---- all of them
 
 module _ (mode : Moment → Bool) (bundle : Bundle) (bound : ℕ) (writes : List NumberedWrite) where
@@ -213,18 +164,12 @@ module _ (mode : Moment → Bool) (bundle : Bundle) (bound : ℕ) (writes : List
       (found mode bundle (held_after bundle (at ∷ []) held) (n + 1) (drop (suc n) whole.moments))) unseen.0.2.0
       ∙ ap (λ (b : Bool). cond b (Some (n + 1), held_after bundle (at ∷ []) held)
       (found mode bundle (held_after bundle (at ∷ []) held) (n + 1) (drop (suc n) whole.moments)))
-      (none-stops bundle at held unseen.0.2.1)
+      (no_hit-stops bundle at held unseen.0.2.1)
       ∙ ap (λ (l : List Breakpoint). found mode bundle l (n + 1) (drop (suc n) whole.moments))
-      (unhit-all bundle at held unseen.0.2.1)
+      (no_hit-held bundle at held unseen.0.2.1)
       ∙ ap (λ (m : ℕ). found mode bundle held m (drop (suc n) whole.moments)) next
       ∙ found-over held k (suc n) unseen.1
       ∙ ap (λ (m : ℕ). found mode bundle held m (drop m whole.moments)) e
-
-  pub within-start : (n : ℕ) (m : Machine) → StandsFor bundle bound writes n m → n ≤ length whole.moments
-  within-start zero m stands = omega arith
-  within-start (suc k) m stands =
-      let found = of_image _ _ _ stands.state in
-      let long = slice_get_within whole.moments k found.0 found.1 in omega (arith, long)
 
   pub within : (held : List Breakpoint) (k n : ℕ) → n ≤ length whole.moments → AreUnseen mode bundle held whole n k
       → n + k ≤ length whole.moments
@@ -241,7 +186,7 @@ module _ (mode : Moment → Bool) (bundle : Bundle) (bound : ℕ) (writes : List
         → IsPast mode bundle bound writes n before table begun (steps + goes.over)
     past-by came new after goes = record {
       at = way.at + goes.over;
-      within = within table.held goes.over way.at (within-start way.at old way.stands) goes.unseen;
+      within = within table.held goes.over way.at (within_run bundle bound writes way.at old way.stands) goes.unseen;
       next = way.next;
       found = way.found ∙ found-over table.held goes.over way.at goes.unseen;
       counted = let h = way.counted in omega (arith, h);

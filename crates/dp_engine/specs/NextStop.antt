@@ -49,6 +49,18 @@ reached_moment bundle bound writes (reached.Moment number depth) = number
 reached_moment bundle bound writes (reached.End end) =
     length (program_trace bundle bound writes).moments
 
+-- A machine has gone on past n to where the command or a breakpoint stops, or to the end, and the
+-- breakpoints have the hits on the way. So many steps were counted before and after: one for each
+-- moment.
+pub record GoesOnTo (mode : Moment → Bool) (bundle : Bundle) (bound : ℕ)
+    (writes : List NumberedWrite) (before after : Table) (n : ℕ) (came : Reached)
+    (machine : Machine) (begun steps : ℕ) : Type 0 where
+  pub reached : Reaches bundle bound writes (stop_past mode bundle bound writes before.held n) came
+      machine
+  pub breaks : after ≡ table_past mode bundle bound writes before n
+  pub of : 0 < length bundle.files → IsOf bundle machine.state
+  pub counted : steps + n ≡ begun + reached_moment bundle bound writes came
+
 -- ---- one moment
 
 -- a test that holds at each moment
@@ -62,13 +74,9 @@ stops_next mode bundle bound writes held n =
     option_map_or (λ stop. stop == n + 1) (stop_past mode bundle bound writes held n) false
 
 -- A machine has passed one moment past n, or has come to the end: that moment is the stop of the
--- test that holds at each. So many steps were counted before and after.
+-- test that holds at each.
 pub record PassesOne (mode : Moment → Bool) (bundle : Bundle) (bound : ℕ)
     (writes : List NumberedWrite) (before after : Table) (n : ℕ) (passed : Passed)
     (machine : Machine) (begun steps : ℕ) : Type 0 where
-  pub reached : Reaches bundle bound writes (stop_past every bundle bound writes before.held n)
-      passed.reached machine
+  pub goes : GoesOnTo every bundle bound writes before after n passed.reached machine begun steps
   pub stops : passed.stops ≡ stops_next mode bundle bound writes before.held n
-  pub breaks : after ≡ table_past every bundle bound writes before n
-  pub of : 0 < length bundle.files → IsOf bundle machine.state
-  pub counted : steps + n ≡ begun + reached_moment bundle bound writes passed.reached

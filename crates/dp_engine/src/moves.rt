@@ -1,15 +1,13 @@
 //! A machine goes on to the first stop or to the end, and counts hits and steps.
 
-ghost use Rattle.std.specs.Prelude.{◌≡◌, ◌+◌, ◌<◌, ◌∷◌, ◌||◌, ℕ, List, [], length, None, true, false, IfOk, OnOk};
+ghost use Rattle.std.specs.Prelude.{◌≡◌, ◌∷◌, ◌||◌, ℕ, List, [], true, false, IfOk, OnOk};
 ghost use Rattle.std.specs.List.{list_any};
 ghost use Rattle.dp_break.specs.StopRule.{held_after, one_stops};
-ghost use Rattle.dp_engine.specs.NextStop.{PassesOne, Reaches, reached_moment, stop_past, table_past};
+ghost use Rattle.dp_engine.specs.NextStop.{GoesOnTo, PassesOne};
 ghost use Rattle.dp_engine.specs.Stops.{stops};
 ghost use Rattle.dp_meaning.specs.declared.writes.NumberedWrite.{NumberedWrite as AnyWrite};
 ghost use Rattle.dp_state.specs.declared.moments.Moment.{Moment as AnyMoment};
-ghost use Rattle.dp_state.specs.States.{IsOf};
 ghost use Rattle.dp_step.specs.Stands.{StandsFor};
-ghost use Rattle.dp_tree.specs.declared.bundle.Bundle.{Bundle as SomeBundle};
 
 use crate::past::{MOST_LINES, due_by, go_on, lines_of, look};
 use crate::reached::{Passed, Reached};
@@ -89,18 +87,13 @@ pub fn go_on_from<L: Ledger>(
     breaks: &mut Breaks,
     steps: &mut Steps<L>,
 ) -> Result<Reached, Memory>
-    ensures reached { (bound : ℕ) (writes : List AnyWrite) (n : ℕ) → StandsFor bundle.now bound writes n machine.old
-        → IfOk result (λ reached. Reaches bundle.now bound writes
-        (stop_past (stops mode depth) bundle.now bound writes breaks.old.held n) reached machine.new) }
-    ensures breaks { (bound : ℕ) (writes : List AnyWrite) (n : ℕ) → StandsFor bundle.now bound writes n machine.old
-        → OnOk result (breaks.new ≡ table_past (stops mode depth) bundle.now bound writes breaks.old n) }
-    ensures of { (bound : ℕ) (writes : List AnyWrite) (n : ℕ) → StandsFor bundle.now bound writes n machine.old
-        → 0 < length bundle.now.files → OnOk result (IsOf bundle.now machine.new.state) }
-    ensures counted { (bound : ℕ) (writes : List AnyWrite) (n : ℕ) → StandsFor bundle.now bound writes n machine.old
-        → IfOk result (λ reached. steps.new + n ≡ steps.old + reached_moment bundle.now bound writes reached) }
+    ensures { (bound : ℕ) (writes : List AnyWrite) (n : ℕ) → StandsFor bundle.now bound writes n machine.old
+        → IfOk result (λ reached. GoesOnTo (stops mode depth) bundle.now bound writes breaks.old breaks.new n reached
+        machine.new steps.old steps.new) }
 {
     if is_free(mode, breaks) {
-        run_free(machine, steps)
+        let outcome = machine.run_out(steps)?;
+        Ok(Reached::End(outcome))
     } else {
         go_on_watched(machine, bundle, depth, mode, breaks, steps)
     }
@@ -115,15 +108,9 @@ fn go_on_watched<L: Ledger>(
     breaks: &mut Breaks,
     steps: &mut Steps<L>,
 ) -> Result<Reached, Memory>
-    ensures reached { (bound : ℕ) (writes : List AnyWrite) (n : ℕ) → StandsFor bundle.now bound writes n machine.old
-        → IfOk result (λ reached. Reaches bundle.now bound writes
-        (stop_past (stops mode depth) bundle.now bound writes breaks.old.held n) reached machine.new) }
-    ensures breaks { (bound : ℕ) (writes : List AnyWrite) (n : ℕ) → StandsFor bundle.now bound writes n machine.old
-        → OnOk result (breaks.new ≡ table_past (stops mode depth) bundle.now bound writes breaks.old n) }
-    ensures of { (bound : ℕ) (writes : List AnyWrite) (n : ℕ) → StandsFor bundle.now bound writes n machine.old
-        → 0 < length bundle.now.files → OnOk result (IsOf bundle.now machine.new.state) }
-    ensures counted { (bound : ℕ) (writes : List AnyWrite) (n : ℕ) → StandsFor bundle.now bound writes n machine.old
-        → IfOk result (λ reached. steps.new + n ≡ steps.old + reached_moment bundle.now bound writes reached) }
+    ensures { (bound : ℕ) (writes : List AnyWrite) (n : ℕ) → StandsFor bundle.now bound writes n machine.old
+        → IfOk result (λ reached. GoesOnTo (stops mode depth) bundle.now bound writes breaks.old breaks.new n reached
+        machine.new steps.old steps.new) }
 {
     let mut all = [0; MOST_LINES];
     let count = lines_of(breaks.list(), &mut all);
@@ -146,22 +133,6 @@ fn go_on_watched<L: Ledger>(
     }
     // No run has so many moments.
     Err(Memory)
-}
-
-/// To the end of the program, which nothing stops before.
-fn run_free<L: Ledger>(machine: &mut Machine, steps: &mut Steps<L>) -> Result<Reached, Memory>
-    ensures reached { (bundle : SomeBundle) (bound : ℕ) (writes : List AnyWrite) (n : ℕ)
-        → StandsFor bundle bound writes n machine.old
-        → IfOk result (λ reached. Reaches bundle bound writes None reached machine.new) }
-    ensures of { (bundle : SomeBundle) (bound : ℕ) (writes : List AnyWrite) (n : ℕ)
-        → StandsFor bundle bound writes n machine.old
-        → 0 < length bundle.files → OnOk result (IsOf bundle machine.new.state) }
-    ensures counted { (bundle : SomeBundle) (bound : ℕ) (writes : List AnyWrite) (n : ℕ)
-        → StandsFor bundle bound writes n machine.old
-        → IfOk result (λ reached. steps.new + n ≡ steps.old + reached_moment bundle bound writes reached) }
-{
-    let outcome = machine.run_out(steps)?;
-    Ok(Reached::End(outcome))
 }
 
 /// Whether neither the command nor a breakpoint stops at any moment.

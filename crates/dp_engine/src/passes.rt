@@ -4,12 +4,13 @@ ghost use Rattle.std.specs.List.{AllByRecursion};
 ghost use Rattle.dp_command.specs.Lines.{line_of};
 ghost use Rattle.dp_engine.specs.Passes as spec;
 ghost use Rattle.dp_engine.specs.inner.Departures.{GivesGoing};
+ghost use Rattle.dp_engine.specs.inner.Places.{passing_of};
 ghost use Rattle.dp_engine.specs.inner.Position.{phase_of};
 ghost use Rattle.dp_engine.specs.ShortLines.{IsShort, IsShortLine};
 ghost use Rattle.dp_wire.specs.Frames.{IsCommand, IsPacketText};
 
 use crate::moves::pass_one;
-use crate::reached::Reached;
+use crate::reached::{Passed, Reached};
 use crate::refusals::read_command;
 use crate::replies::tell_status;
 use crate::session::{Answer, Session, give, line_in};
@@ -49,11 +50,23 @@ pub enum Passing {
     End,
 }
 
-/// Whether the program stops at a moment that has come.
-fn passing_if(stops: bool) -> Passing
-    ensures { result ≡ spec.passing_if stops }
+/// What it is to a continuation that a moment has come, or the end.
+fn passing_by(passed: Passed) -> Passing
+    ensures { result ≡ passing_of passed.reached passed.stops }
 {
-    if stops { Passing::Stop } else { Passing::On }
+    match passed.reached {
+        Reached::Moment {
+            number: _,
+            depth: _,
+        } => {
+            if passed.stops {
+                Passing::Stop
+            } else {
+                Passing::On
+            }
+        }
+        Reached::End(_) => Passing::End,
+    }
 }
 
 /// The continuation that a request is.
@@ -276,20 +289,11 @@ impl<'a> Session<'a> {
             self.failed = true;
             return Err(Memory);
         };
-        match passed.reached {
-            Reached::Moment { number, depth } => {
-                self.moment = number;
-                self.depth = depth;
-                self.position = Position::Break;
-                Ok(passing_if(passed.stops))
-            }
-            Reached::End(outcome) => {
-                self.moment = 0;
-                self.depth = 1;
-                self.position = Position::Stopping(outcome);
-                Ok(Passing::End)
-            }
-        }
+        let (moment, depth, position) = passed.reached.place();
+        self.moment = moment;
+        self.depth = depth;
+        self.position = position;
+        Ok(passing_by(passed))
     }
 
     /// Answers a continuation where its session stands: at a stop, at any moment before, or at the program's end. What

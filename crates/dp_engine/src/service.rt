@@ -63,8 +63,8 @@ fn left(session: Session<'_>, end: ServeEnd) -> Served
     cut_short(end)
 }
 
-/// Runs the program on to its end, once the session is over.
-fn finish<E: Sink, L: Ledger>(
+/// Runs the program on to its end, once the session is over, and puts what it still writes.
+fn settle<E: Sink, L: Ledger>(
     session: Session<'_>,
     end: ServeEnd,
     out: &mut E,
@@ -106,19 +106,19 @@ pub fn close<E: Sink, L: Ledger>(
 {
     match over {
         SessionOver::Ended(SessionEnd::Killed) => left(session, ServeEnd::Stopped),
-        SessionOver::Ended(SessionEnd::Detached) => finish(session, ServeEnd::Detached, out, steps),
-        SessionOver::Ended(SessionEnd::Finished(_)) => finish(
+        SessionOver::Ended(SessionEnd::Detached) => settle(session, ServeEnd::Detached, out, steps),
+        SessionOver::Ended(SessionEnd::Finished(_)) => settle(
             session,
             ServeEnd::Stopped,
             out,
             steps,
         ),
-        SessionOver::LinkEnd => finish(session, ServeEnd::LinkEnd, out, steps),
-        SessionOver::ReadFault => finish(session, ServeEnd::ReadFault, out, steps),
+        SessionOver::LinkEnd => settle(session, ServeEnd::LinkEnd, out, steps),
+        SessionOver::ReadFault => settle(session, ServeEnd::ReadFault, out, steps),
         SessionOver::BadCommandFrame { offset } => {
-            finish(session, ServeEnd::BadCommandFrame { offset }, out, steps)
+            settle(session, ServeEnd::BadCommandFrame { offset }, out, steps)
         }
-        SessionOver::ByteLimit => finish(session, ServeEnd::ByteLimit, out, steps),
+        SessionOver::ByteLimit => settle(session, ServeEnd::ByteLimit, out, steps),
     }
 }
 
@@ -139,7 +139,7 @@ pub fn close_cut<E: Sink, L: Ledger>(
 {
     match fault {
         Fault::Write(Some(SessionEnd::Killed)) => left(session, ServeEnd::WriteFault),
-        Fault::Write(_) => finish(session, ServeEnd::WriteFault, out, steps),
+        Fault::Write(_) => settle(session, ServeEnd::WriteFault, out, steps),
         Fault::Out => left(session, ServeEnd::OutFault),
         Fault::Memory => left(session, ServeEnd::Memory),
     }

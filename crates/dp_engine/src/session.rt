@@ -1,5 +1,6 @@
 //! One session of the engine with an IDE.
-ghost use Rattle.std.specs.Prelude.{◌≡◌, ◌≢◌, ◌+◌, ◌≤◌, [], drop, false, length, map, true, IfOk, IfSome, OnErr, OnOk};
+ghost use Rattle.std.specs.Prelude.{◌≡◌, ◌≢◌, ◌+◌, ◌≤◌, [], drop, false, length, map, true};
+ghost use Rattle.std.specs.Prelude.{IfOk, IfSome, OnErr, OnOk, Some};
 ghost use Rattle.std.specs.List.{AllByRecursion};
 ghost use Rattle.dp_wire.specs.Frames.{IsCommand, IsPacketText};
 ghost use Rattle.dp_outside.specs.Names.{key_limit};
@@ -11,7 +12,6 @@ ghost use Rattle.dp_command.specs.Lines.{line_of};
 ghost use Rattle.dp_tree.specs.FileNames.{AreFileNames, file_name_limit};
 
 use crate::moves::go_on_from;
-use crate::reached::Reached;
 use crate::replies::{Turn, news};
 use crate::responses;
 use crate::states::{Phase, Position};
@@ -161,6 +161,7 @@ impl<'a> Session<'a> {
     ghost use Rattle.dp_engine.specs.Refused.{IsAnsweredBy};
     ghost use Rattle.dp_engine.specs.Session.{opening, outcome_of, output_so_far, program_of};
     ghost use Rattle.dp_engine.specs.Session.{steps_between, steps_left, unwritten, written_between};
+    ghost use Rattle.dp_engine.specs.Served.{ending_after, rest_after};
     ghost use Rattle.dp_conversation.specs.Folds.{reply_of};
     ghost use Rattle.dp_state.specs.States.{IsOf};
 
@@ -370,20 +371,11 @@ impl<'a> Session<'a> {
             self.failed = true;
             return Err(Memory);
         };
-        match reached {
-            Reached::Moment { number, depth } => {
-                self.moment = number;
-                self.depth = depth;
-                self.position = Position::Break;
-                Ok(())
-            }
-            Reached::End(outcome) => {
-                self.moment = 0;
-                self.depth = 1;
-                self.position = Position::Stopping(outcome);
-                Ok(())
-            }
-        }
+        let (moment, depth, position) = reached.place();
+        self.moment = moment;
+        self.depth = depth;
+        self.position = position;
+        Ok(())
     }
 
     /// Runs the program on to its end, if it has not ended, and answers the rest of its output and how it ended. A
@@ -402,7 +394,40 @@ impl<'a> Session<'a> {
         rest
     }
 
-    /// The same of a session that is lent.
+    /// What becomes of the program once the session is over, by the command that ended it, if one did: it runs on to
+    /// its end as in `finish`, and where a command killed it, it is left where it stands.
+    pub fn finish_after<L: Ledger>(
+        self,
+        ended: Option<SessionEnd>,
+        steps: &mut Steps<L>,
+    ) -> Result<(Bytes, Option<Outcome>), Memory>
+        ensures rest { IfOk result (λ end. end.0 ≡ rest_after ended self.entry) }
+        ensures outcome { IfOk result (λ end. end.1 ≡ ending_after ended self.entry) }
+        ensures stays { IfOk result (λ end. IfSome end.1 (λ outcome. self.entry.failed ≡ false)) }
+    {
+        match ended {
+            Some(SessionEnd::Killed) => {
+                let alloc = self.alloc;
+                drop(self);
+                Ok((Bytes::of(Vec::new(alloc)), None))
+            }
+            Some(SessionEnd::Detached) => self.run_to_end(steps),
+            Some(SessionEnd::Finished(_)) => self.run_to_end(steps),
+            None => self.run_to_end(steps),
+        }
+    }
+
+    /// Runs the program on to its end, as `finish` does.
+    fn run_to_end<L: Ledger>(self, steps: &mut Steps<L>) -> Result<(Bytes, Option<Outcome>), Memory>
+        ensures rest { IfOk result (λ end. end.0 ≡ unwritten self.entry) }
+        ensures outcome { IfOk result (λ end. end.1 ≡ Some (outcome_of self.entry)) }
+        ensures stays { OnOk result (self.entry.failed ≡ false) }
+    {
+        let (rest, outcome) = self.finish(steps)?;
+        Ok((rest, Some(outcome)))
+    }
+
+    /// Runs the program of a session that is lent on to its end, as `finish` does.
     fn run_out<L: Ledger>(&mut self, steps: &mut Steps<L>) -> Result<(Bytes, Outcome), Memory>
         ensures rest { IfOk result (λ rest. rest.0 ≡ unwritten self.old) }
         ensures outcome { IfOk result (λ rest. rest.1 ≡ outcome_of self.old) }

@@ -15,14 +15,13 @@ use Rattle.dp_ide.proofs.LineLaws.{no_bad}
 use Rattle.dp_top.specs.declared.failures.Failure.{Failure}
 use Rattle.dp_top.specs.declared.failures.Failure.TheVariants as failure
 use Rattle.dp_top.specs.declared.failures.Refused.{Refused}
-use Rattle.dp_top.specs.Engine.{IsApart, IsIdle}
+use Rattle.dp_top.specs.Engine.{IsApart}
 use Rattle.dp_top.specs.Failures.{status_of}
 use Rattle.dp_top.specs.Ide.{IdeFails, IsNoScript, IsPlayed, IsScriptFile, Plays, failure_of}
 use Rattle.dp_top.specs.Lines.{IsBadAt, Unread, lines_limit}
 use Rattle.dp_top.specs.Links.{IsAccepted, IsGated, IsUncalled, Reports}
 use Rattle.dp_top.specs.Seen.{Net, NoneRose, Seen, changed}
 use Rattle.dp_top.specs.Tasks.{Caused, Does}
-use Rattle.dp_top.specs.inner.BadLines.{UnreadSo}
 use Rattle.dp_top.specs.inner.Gated.{Called, DoorSeen, GatedSo, IsReportedBy, MetSo, PlayedSo}
 use Rattle.dp_top.proofs.LineLaws.{held_or_lacking, same_content}
 use Rattle.dp_top.proofs.TaskLaws.{one_task, returned_rose}
@@ -179,12 +178,6 @@ module _ (port : ℕ) (script : List ℕ) (old new : Seen) (apart : IsApart old 
           (changed old.out new.out) old.net new.net) well.1 h),
     )
     played_told played (Err why) h well ill = told_so played h why.failure why.name.now ill.0 ill.1
-
-pub unread_told : (port : ℕ) (script : List ℕ) (old new : Seen) (why : Failure) (name : List ℕ)
-    → UnreadSo IsFirstBad why name script old.shelf.files old.shelf.faults new.shelf.faults → IsIdle old new
-    → IdeFails why name port script old new
-unread_told port script old new why name (inl memory) idle = inl (memory, inl idle)
-unread_told port script old new why name (inr unread) idle = inr (inl (unread, idle))
 
 -- ---- a script, or none
 

@@ -1,6 +1,5 @@
 -- Gates at which a proxy served, and what serving comes to.
 use Rattle.std.proofs.Common.{◌≡◌, ◌⊎◌, ℕ, zero, suc, ◌<◌, ◌≤◌, ◌+◌, Bool, true, false, List, [], ◌∷◌, ◌++◌, map, Option, None, Some, Ok, Err, Result, refl, sym, ap, ◌∙◌, subst, arith, inl, inr}
-use Rattle.std.specs.Io.KnownBytes.{Appends}
 use Rattle.std.specs.Prelude.{MatchResult}
 use Rattle.std.specs.Option.{option_map_or}
 use Rattle.dp_outside.specs.Causes.{Rose}
@@ -17,14 +16,13 @@ use Rattle.dp_crews.specs.Relays as relay
 use Rattle.dp_crews.specs.declared.errors.AllError.{AllError}
 use Rattle.dp_crews.specs.declared.errors.AllError.TheVariants.{GateFault, NoThread, Memory}
 use Rattle.dp_crews.specs.declared.summaries.Summary.{Summary}
-use Rattle.dp_top.specs.declared.failures.Failure.{Failure}
 use Rattle.dp_top.specs.declared.failures.Failure.TheVariants as failure
 use Rattle.dp_value.specs.Decimals.{decimal_in}
 use Rattle.dp_words.specs.Words.{Service, not_zero, served_count_of, served_limit}
-use Rattle.dp_top.specs.Proxy.{CountsGates, HasFailed, IsHalfGated, IsNew, IsRun, IsServed, IsUnserved, Proxies, ProxyFails, by_telling, door_of, failure_of, summary_line}
+use Rattle.dp_top.specs.Proxy.{CountsGates, HasFailed, IsHalfGated, IsNew, IsRun, IsUnserved, ProxyFails, by_telling, door_of, failure_of}
 use Rattle.dp_top.specs.Links.{IsUngated}
 use Rattle.dp_top.specs.Seen.{Net}
-use Rattle.dp_top.specs.inner.Proxied.{AreShut, Came, Ran, RanAt, UnsaidSo}
+use Rattle.dp_top.specs.inner.Proxied.{AreShut, Came, Ran, RanAt}
 use Rattle.dp_top.proofs.SoakLaws.{decimal_below}
 use Rattle.dp_top.proofs.TaskLaws.{returned_rose}
 use Rattle.dp_top.proofs.TellingLaws.{bounds_told, map_both, served_told}
@@ -302,17 +300,6 @@ unserved_failed service why old new starts (inr r) is = run_failed service why o
 -- ---- the line
 
 module _ (service : Service) (out : Change) (old new : Net) (starts : Faults) where
-  pub printed : (s : Summary) (status : ℕ) → IsServed service s old new starts → status ≡ 0
-      → Appends out.told_before out.told (summary_line s) → Proxies status service out old new starts
-  printed s status served is put = record { is_status = is; summary = s; served = served; put = put }
-
-  pub unsaid : (s : Summary) (why : Failure) (name : List ℕ) → IsServed service s old new starts → name ≡ []
-      → UnsaidSo why (summary_line s) out → ProxyFails why name service out old new starts
-  unsaid s why name served none (inl memory) =
-      (none, inl (memory.0, inr (inl (record { summary = s; served = served; out_stays = memory.1 }))))
-  unsaid s why name served none (inr output) =
-      (none, inr (inr (output.0, record { summary = s; served = served; put = output.1; fault = output.2 })))
-
   pub undone : (why : AllError) (name : List ℕ) → name ≡ [] → IsUnserved service why old new starts
       → IsUntouched out → ProxyFails (failure_of why) name service out old new starts
   undone GateFault name none unserved still = (

@@ -299,11 +299,6 @@ grown_twice : (told : RequestedNames) (first : List ℕ) (names : List (List ℕ
 grown_twice None first names = refl
 grown_twice (Some told) first names = ap Some (append_assoc told (first ∷ []) names)
 
-pub only_first : (before after : RequestedNames) (first : List ℕ) (names : List (List ℕ)) → after ≡ grown before
-    (first ∷ [])
-    → OnlyFetched (first ∷ names) before after
-only_first before after first names e = (1, e)
-
 pub first_and : (before mid after : RequestedNames) (first : List ℕ) (names : List (List ℕ)) → mid ≡ grown before
     (first ∷ [])
     → OnlyFetched names mid after → OnlyFetched (first ∷ names) before after

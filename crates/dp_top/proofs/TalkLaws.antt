@@ -1,5 +1,5 @@
 -- What serving a session came to decides the end of `talk`.
-use Rattle.std.proofs.Common.{◌≡◌, ◌≤◌, ℕ, List, [], Option, None, Some, Result, Ok, Err, refl, sym, ap, ◌∙◌, subst, inl, inr, arith}
+use Rattle.std.proofs.Common.{◌≡◌, ◌≤◌, ℕ, List, Option, None, Some, Result, Ok, Err, refl, sym, ap, ◌∙◌, subst, inl, inr, arith}
 use Rattle.std.specs.Prelude.{IfOk, IfErr, MatchResult}
 use Rattle.dp_outside.specs.Changes.{Change}
 use Rattle.dp_tree.specs.declared.bundle.Bundle.{Bundle}
@@ -13,42 +13,19 @@ use Rattle.dp_engine.specs.Served.{ending_after}
 use Rattle.dp_engine.specs.Service.{Serves, ServesTo}
 use Rattle.dp_engine.specs.Session.{State, outcome_of}
 use Rattle.dp_meaning.proofs.Exits.{exit_small}
-use Rattle.dp_program.specs.declared.errors.RunError.{RunError}
 use Rattle.dp_program.specs.declared.errors.ProgramError.{ProgramError}
 use Rattle.dp_program.specs.Programs.{IsComplete as IsRunComplete, NamesMake, ProgramCaused}
-use Rattle.dp_program.specs.Runs.{judged as judged_end}
 use Rattle.dp_state.specs.declared.moments.Outcome.{Outcome}
 use Rattle.dp_state.specs.declared.moments.Outcome.TheVariants as way
 use Rattle.dp_top.specs.declared.failures.Failure.{Failure}
 use Rattle.dp_top.specs.declared.failures.Failure.TheVariants as failure
 use Rattle.dp_top.specs.declared.failures.Refused.{Refused}
 use Rattle.dp_words.specs.Words.{Invocation}
-use Rattle.dp_top.specs.Runs.{IsProgramReported, IsRunReported}
+use Rattle.dp_top.specs.Runs.{IsProgramReported}
 use Rattle.dp_top.specs.inner.Completeness.{IsComplete, IsGood}
 use Rattle.dp_top.specs.Seen.{Seen, changed}
-use Rattle.dp_top.specs.Talk.{AreIdle, Talks, TalkFails, EndReport, end_report, ended, judged_by, unnamed}
+use Rattle.dp_top.specs.Talk.{AreIdle, Talks, TalkFails, EndReport, ended, judged_by}
 use Rattle.dp_top.specs.inner.Sessions.{ServedSo, UnservedSo, reported_in}
-
--- ---- what is told
-
-pub unnamed_told : (refused : Refused) (why : Failure) → refused.failure ≡ why → refused.name.now ≡ []
-    → reported_in (Err refused) ≡ unnamed why
-unnamed_told refused why failed name = λ i. Err (failed i, name i)
-
-pub end_status : (ask : Invocation) (status : ℕ) (outcome : Outcome) → Ok status ≡ judged_end outcome
-    → reported_in (Ok status) ≡ ended ask (Some outcome)
-end_status ask status outcome e = ap (end_report ask) e
-
-pub end_failure : (ask : Invocation) (refused : Refused) (why : RunError) (outcome : Outcome)
-    → IsRunReported refused.failure refused.name.now ask why → Err why ≡ judged_end outcome
-    → reported_in (Err refused) ≡ ended ask (Some outcome)
-end_failure ask refused why outcome told e = (λ i. Err (told.0 i, told.1 i)) ∙ ap (end_report ask) e
-
-pub by_its_end : (unsent : Failure) (ask : Invocation) (served : Served) (end : ServeEnd) (told : EndReport)
-    → served.end ≡ end
-    → told ≡ judged_by unsent ask served.outcome end
-    → told ≡ judged_by unsent ask served.outcome served.end
-by_its_end unsent ask served end told is e = e ∙ ap (judged_by unsent ask served.outcome) (sym is)
 
 -- ---- no end of a session is a bad source
 
@@ -80,9 +57,6 @@ pub good_served : (unsent : Failure) → IsGood unsent → (ask : Invocation) (s
 good_served unsent good ask served (Ok status) told = tt
 good_served unsent good ask served (Err why) told =
     subst IsGoodReport (sym told) (good_judged unsent good ask served.outcome served.end)
-
-pub good_memory : (refused : Refused) → refused.failure ≡ failure.Memory → IsGood refused.failure
-good_memory refused memory = subst IsGood (sym memory) ((λ e. omega (arith, e)), (λ e. cc))
 
 -- ---- a status is one of 200
 
@@ -119,14 +93,6 @@ module _ (unsent : Failure) (ask : Invocation) (served : Served) (program : Bund
       → Serves served program ask.bound key input out err → IfOk result (λ status. status ≤ 199)
   small_served (Ok status) told s = small status served.end s (sym told)
   small_served (Err why) told s = tt
-
-  -- what was served is what is told
-  pub served_told : (result : Result ℕ Refused) → reported_in result ≡ judged_by unsent ask served.outcome served.end
-      → Serves served program ask.bound key input out err
-      → MatchResult result (λ status. ServedSo unsent status program key ask input out err)
-      (λ why. UnservedSo unsent why.failure why.name.now program key ask input out err)
-  served_told (Ok status) told s = record { served = served; serves = s; reported = sym told }
-  served_told (Err why) told s = inr (record { served = served; serves = s; reported = sym told })
 
 -- ---- a session over the program of the files
 

@@ -6,9 +6,7 @@ use Rattle.std.specs.Str.{bytes_eq}
 use Rattle.dp_value.specs.Decimals.{decimal_in}
 use Rattle.dp_outside.specs.Causes.{Rose}
 use Rattle.dp_outside.specs.Changes.{Change}
-use Rattle.dp_show.specs.declared.errors.ShowError.{ShowError}
 use Rattle.dp_show.specs.declared.errors.ShowError.TheVariants as ends
-use Rattle.dp_show.specs.Shows.{Ends}
 use Rattle.dp_show.proofs.ShowLaws.{cut_of}
 use Rattle.dp_top.specs.declared.failures.Failure.{Failure}
 use Rattle.dp_top.specs.declared.failures.Failure.TheVariants as failure
@@ -41,7 +39,7 @@ use Rattle.dp_top.specs.inner.Completeness.{AreComplete, IsBadSource, IsGood}
 use Rattle.dp_top.specs.Seen.{Net, NoneRose, Seen, Stream, changed}
 use Rattle.dp_top.specs.Soak.{SoakFails}
 use Rattle.dp_top.specs.Talk.{EndReport, EndsSo, TalkFails, ended, judged_by}
-use Rattle.dp_top.specs.Tasks.{failure_of, ShowCaused, Does, Caused, Fails, IsFetchedFor, before_line}
+use Rattle.dp_top.specs.Tasks.{ShowCaused, Does, Caused, Fails, IsFetchedFor, before_line}
 use Rattle.dp_top.proofs.RunReports.{bad_source, nothing_fetched}
 use Rattle.dp_top.proofs.AsyncLaws.{async_starved}
 use Rattle.dp_top.proofs.DapLaws.{dap_starved}
@@ -174,15 +172,6 @@ one_task words task other p q =
     ap (λ (o : Option Task). option_map_or (λ t. t) o task) same
 
 -- ---- failures
-
--- the end of `show` is the cause of its failure
-pub show_caused : (why : ShowError) (input out : Change) → Ends (Err why) input out
-    → ShowCaused (failure_of why) input out
-show_caused ends.PeerEnd input out h = h
-show_caused (ends.BadPacket offset) input out h = h
-show_caused ends.ReadFault input out h = h
-show_caused ends.OutFault input out h = h
-show_caused ends.Memory input out h = h
 
 show_cut : (failed : Failure) (input out : Change) → ShowCaused failed input out → ShowCaused failure.Memory input out
 show_cut failure.PeerEnd input out h = cut_of ends.PeerEnd input out h
@@ -470,14 +459,6 @@ module _ (failed : Failure) (name : List ℕ) (address : Address) (key : List �
       → 0 < source.faults + sink.faults → ⊥
   link_sound source sink d some =
       none.returned_not (returned_rose (source.faults + sink.faults) old.net.returned new.net.returned d.returned some)
-
-  begun_at : (source sink : Change) → IsDialled address source sink old.net new.net
-      → (source.faults_before ≡ 0) × (sink.faults_before ≡ 0)
-  begun_at source sink d =
-      (ap (λ (c : Change). c.faults_before) d.used.source_is, ap (λ (c : Change). c.faults_before) d.used.sink_is)
-
-  abbrev IsServedHere : Type 0
-  IsServedHere = EngineEnds failed name address key ask old new
 
   module _ (h : EngineEnds failed name address key ask old new) where
     source_fault : (ended_by : Option SessionEnd) (rest read : List ℕ) → h.served.end ≡ serve.ReadFault

@@ -1,6 +1,5 @@
 //! The engines of a program, for a replay.
-ghost use Rattle.std.specs.Prelude.{◌≡◌, ◌≤◌, Some, false, map, IfOk, OnOk};
-ghost use Rattle.dp_engine.specs.Session.{outcome_of, unwritten};
+ghost use Rattle.std.specs.Prelude.{◌≡◌, ◌≤◌, map, IfOk};
 ghost use Rattle.dp_outside.specs.Changes.{change};
 ghost use Rattle.dp_top.specs.Engines.{engines_of};
 ghost use Rattle.dp_tree.specs.FileNames.{AreFileNames};
@@ -74,41 +73,20 @@ impl<'a, L: Ledger> Engines for Debugged<'a, L> {
         session.answer(line, steps)
     }
 
-    /// The program runs on to its end, unless a command has killed it.
+    /// The program runs on to its end, unless a command has killed it. The session has an allocator of its own.
     fn finish(
         &self,
         session: Session<'a>,
         ended: Option<SessionEnd>,
-        alloc: Global,
+        _alloc: Global,
         steps: &mut Steps<L>,
     ) -> Result<(Bytes, Option<Outcome>), Memory>
         ensures rest { IfOk result (λ end. end.0 ≡ rest_after ended session.entry) }
         ensures outcome { IfOk result (λ end. end.1 ≡ ending_after ended session.entry) }
         ensures stays { IfOk result (λ end. IfSome end.1 (λ outcome. session.entry.failed ≡ false)) }
     {
-        match ended {
-            Some(SessionEnd::Killed) => {
-                drop(session);
-                Ok((Bytes::of(Vec::new(alloc)), None))
-            }
-            Some(SessionEnd::Detached) => run_to_end(session, steps),
-            Some(SessionEnd::Finished(_)) => run_to_end(session, steps),
-            None => run_to_end(session, steps),
-        }
+        session.finish_after(ended, steps)
     }
-}
-
-/// Runs the program on to its end.
-fn run_to_end<L: Ledger>(
-    session: Session<'_>,
-    steps: &mut Steps<L>,
-) -> Result<(Bytes, Option<Outcome>), Memory>
-    ensures rest { IfOk result (λ end. end.0 ≡ unwritten session.entry) }
-    ensures outcome { IfOk result (λ end. end.1 ≡ Some (outcome_of session.entry)) }
-    ensures stays { OnOk result (session.entry.failed ≡ false) }
-{
-    let (rest, outcome) = session.finish(steps)?;
-    Ok((rest, Some(outcome)))
 }
 
 /// Replays a list of events with engines of the program, and writes its transcript.
