@@ -1,11 +1,10 @@
 -- What reads and writes do piece by piece, taken together.
-use Rattle.std.proofs.Common.{◌≡◌, ℕ, ◌+◌, ◌-◌, ◌≤◌, List, [], ◌++◌, None, Some, length, take, drop, refl, sym, ap, ◌∙◌, subst, append-nil, append_assoc, take_all, take-append-drop, arith}
+use Rattle.std.proofs.Common.{◌≡◌, ℕ, ◌+◌, ◌-◌, List, [], ◌++◌, length, take, drop, refl, sym, ap, ◌∙◌, subst, append-nil, append_assoc, take_all, take-append-drop, arith}
 use Rattle.std.proofs.lemmas.List.{take_at, take_rest}
 use Rattle.std.specs.declared.option.Option.{Option}
-use Rattle.std.specs.Io.KnownBytes.{Appends, Consumes, IsAtEnd, Keeps}
+use Rattle.std.specs.Io.KnownBytes.{Appends, Keeps}
 use Rattle.std.proofs.KnownBytes.{Appends-kept}
 use Rattle.dp_outside.specs.Streams.{AppendsFront}
-use Rattle.dp_adapters.specs.inner.Transfers.{Fronts}
 
 -- what was written is a front of the bytes
 pub front_written : (a b : Option (List ℕ)) (bytes done rest : List ℕ) → bytes ≡ done ++ rest → Appends a b done
@@ -18,22 +17,6 @@ pub all_written : (a b : Option (List ℕ)) (bytes done rest : List ℕ) → byt
     → Appends a b done → Appends a b bytes
 all_written a b bytes done rest split none p =
     subst (Appends a b) (sym (split ∙ ap (λ l. done ++ l) none ∙ append-nil done)) p
-
--- the reader is at its end
-pub front_at_end : (a b : Option (List ℕ)) (limit : ℕ) (bytes : List ℕ) → Consumes a b bytes → IsAtEnd b
-    → length bytes ≤ limit + 1 → Fronts a limit bytes
-front_at_end None b limit bytes p e n = tt
-front_at_end (Some x) None limit bytes p e n = absurd p
-front_at_end (Some x) (Some y) limit bytes p e n =
-    let all : x ≡ bytes = p ∙ ap (λ l. bytes ++ l) e ∙ append-nil bytes in
-    sym (ap (take (limit + 1)) all ∙ take_all (limit + 1) bytes n)
-
--- there is a byte past the limit
-pub front_past_limit : (a b : Option (List ℕ)) (limit : ℕ) (bytes : List ℕ) → Consumes a b bytes
-    → length bytes ≡ limit + 1 → Fronts a limit bytes
-front_past_limit None b limit bytes p n = tt
-front_past_limit (Some x) None limit bytes p n = absurd p
-front_past_limit (Some x) (Some y) limit bytes p n = sym (ap (take (limit + 1)) p ∙ take_at bytes y (limit + 1) n)
 
 -- one more piece was written
 pub piece_written : (all done rest : List ℕ) (n : ℕ) → all ≡ done ++ rest

@@ -4,7 +4,7 @@ use Rattle.std.proofs.lemmas.Fmt.{first_decimal}
 use Rattle.std.proofs.lemmas.List.{append_cancel_left, drop_at, take_all, take-append-drop, get_or_append_left, get_or-take, length-take-le, drop_more}
 use Rattle.std.proofs.Math.Seq.{take-append-add}
 use Rattle.dp_wire.specs.Received.{length_digits}
-use Rattle.dp_wire.proofs.LengthLaws.{digit_spelt, length_digits-some}
+use Rattle.dp_wire.proofs.LengthLaws.{digit_spelt}
 use Rattle.dp_wire.proofs.PacketLaws.{Digits}
 use Rattle.dp_bodies.specs.Frames.{body_limit, head, head_end, length_name}
 use Rattle.dp_bodies.specs.Received.{PassesLimit}
@@ -40,13 +40,6 @@ agreed_front bytes wanted index within same ends short = (
   λ e. absurd (omega (arith, ap length e, length-drop index wanted, short)),
   ap (λ l. l ++ drop index wanted) (sym (take_all index bytes ends) ∙ same) ∙ take-append-drop index wanted,
 )
-
-pub agreed_whole : (bytes wanted : List ℕ) (index : ℕ) → take index bytes ≡ take index wanted → index ≡ length wanted
-    → Agrees bytes wanted Whole
-agreed_whole bytes wanted index same ends =
-    let all : take index wanted ≡ wanted = take_all index wanted (omega (arith, ends)) in
-    sym (take-append-drop index bytes)
-    ∙ (λ i. (same ∙ all) i ++ drop (ends i) bytes)
 
 -- what a slice to the end of the bytes holds
 pub to_end : (n : ℕ) (bytes : List ℕ) → take (length bytes - n) (drop n bytes) ≡ drop n bytes
@@ -151,15 +144,6 @@ digits_none bytes h = record {
       (behind_name n (one ++ rest) behind
       (sym (named one rest) ∙ ap (λ l. l ++ rest) (sym (named_take bytes 1)) ∙ e)) in
       (omega (arith, here.0, first), omega (arith, here.1, first))
-
-pub digits_passed : (bytes : List ℕ) (number : ℕ) → AreDigits bytes (digits.Passed number)
-    → IsHead (length_name ++ bytes) (Passed number)
-digits_passed bytes number h = record {
-  after = h.0;
-  whole = ap (λ l. length_name ++ l) h.1;
-  passes = h.2;
-  first = omega (arith, h.3);
-}
 
 -- ---- the end of the head
 
@@ -293,22 +277,6 @@ module _ (bytes : List ℕ) (end number : ℕ) (h : AreDigits bytes (digits.Know
 
 module _ (bytes : List ℕ) (index number byte : ℕ) (there : index < length bytes) (at : byte ≡ get_or bytes index 0)
     (spelt : take index bytes ≡ length_digits number) (fits : number ≤ body_limit) where
-  pub none_here : number ≡ 0 → ((49 ≤ byte) × (byte ≤ 57) → ⊥) → AreDigits bytes digits.None
-  none_here is_zero other =
-      let few : length (take index bytes) ≡ 0 = ap length (spelt ∙ ap length_digits is_zero) in
-      let first : index ≡ 0 = omega (arith, few, there, length-take-le index bytes (omega (arith, there))) in
-      let here : get_or bytes 0 0 ≡ byte = ap (λ (n : ℕ). get_or bytes n 0) (sym first) ∙ sym at in
-      (omega (arith, there), λ d. other (omega (arith, here, d.0), omega (arith, here, d.1)))
-
-  pub known_here : 0 < number → (IsDigit byte → ⊥) → AreDigits bytes (digits.Known index number)
-  known_here some other = (
-    omega (arith, some),
-    fits,
-    there,
-    spelt ∙ length_digits-some number some,
-    λ d. other (omega (arith, at, d.0), omega (arith, at, d.1)),
-  )
-
   pub passed_digits : (digit : ℕ) → digit < 10 → byte ≡ 48 + digit → 0 < number + digit
       → body_limit < 10 * number + digit → AreDigits bytes (digits.Passed (10 * number + digit))
   passed_digits digit small is some passes = (

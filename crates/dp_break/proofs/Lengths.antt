@@ -1,5 +1,5 @@
 -- Which breakpoints are listed, by their sizes.
-use Rattle.std.proofs.Common.{◌≡◌, ℕ, suc, ◌+◌, ◌-◌, ◌^◌, ◌<◌, ◌≤◌, Bool, true, false, cond, List, [], ◌∷◌, ◌++◌, length, codes, map, take, refl, sym, ap, subst, ◌∙◌, arith, length-append, append_assoc, append-nil}
+use Rattle.std.proofs.Common.{◌≡◌, ℕ, suc, ◌+◌, ◌-◌, ◌^◌, ◌<◌, ◌≤◌, Bool, true, false, cond, List, [], ◌∷◌, ◌++◌, length, codes, map, take, refl, sym, ap, subst, ◌∙◌, arith, length-append}
 use Rattle.std.specs.Prelude.{decimal, nat_le, take_while, Result, Ok, Err, IfOk}
 use Rattle.std.specs.List.{prefix_len}
 use Rattle.std.proofs.lemmas.Bool.{leb-true}
@@ -215,29 +215,3 @@ lines_made_fit command id lines asked (Ok r) is same fits =
     subst (λ (x : Response). length (text (packet.Response x)) ≤ packet_limit)
     (sym (is ∙ ap (lines_response command id) same)) fits
 lines_made_fit command id lines asked (Err e) is same fits = tt
-
--- ---- lines that are put
-
--- one line more that was put
-pub put_line : (past lines more : List BreakLine) (left room : ℕ) (line : BreakLine) (rest : List BreakLine)
-    → past ++ fitting left lines ≡ fitting room more → lines ≡ line ∷ rest → line_size line ≤ left
-    → (past ++ line ∷ []) ++ fitting (left - line_size line) rest ≡ fitting room more
-put_line past lines more left room line rest so_far is within =
-    append_assoc past (line ∷ []) (fitting (left - line_size line) rest)
-    ∙ sym (ap (λ (b : Bool). past ++ cond b (line ∷ fitting (left - line_size line) rest) []) test)
-    ∙ ap (λ ls. past ++ fitting left ls) (sym is)
-    ∙ so_far where
-      test : nat_le (line_size line) left ≡ true
-      test = grind (arith, nat_tests)
-
--- the lines end before one for which there is no room
-pub no_line : (past lines more : List BreakLine) (left room : ℕ) (line : BreakLine) (rest : List BreakLine)
-    → past ++ fitting left lines ≡ fitting room more → lines ≡ line ∷ rest → suc left ≤ line_size line
-    → past ≡ fitting room more
-no_line past lines more left room line rest so_far is past_room =
-    sym (append-nil past)
-    ∙ sym (ap (λ (b : Bool). past ++ cond b (line ∷ fitting (left - line_size line) rest) []) test)
-    ∙ ap (λ ls. past ++ fitting left ls) (sym is)
-    ∙ so_far where
-      test : nat_le (line_size line) left ≡ false
-      test = grind (arith, nat_tests)

@@ -1,17 +1,13 @@
 -- What files make, one file after another.
-use Rattle.std.proofs.Common.{◌≡◌, ◌≢◌, ◌⊎◌, inl, inr, ℕ, suc, ◌+◌, ◌<◌, ◌≤◌, List, [], ◌∷◌, ◌++◌, length, Result, Ok, Err, refl, sym, ap, ◌∙◌, subst, append_assoc, append-nil, arith}
+use Rattle.std.proofs.Common.{◌≡◌, ◌⊎◌, inl, inr, ℕ, suc, ◌+◌, List, [], ◌∷◌, ◌++◌, length, Result, Ok, Err, refl, sym, ap, ◌∙◌, subst, append_assoc, append-nil, arith}
 use Rattle.std.proofs.lemmas.List.{length_push}
-use Rattle.dp_parse.specs.declared.errors.ParseError.{ParseError}
-use Rattle.dp_parse.specs.declared.errors.ParseError.TheVariants as parse_error
 use Rattle.dp_tree.specs.declared.tree.File.{File}
-use Rattle.dp_parse.specs.Programs.{IsFile, IsNoFile}
+use Rattle.dp_parse.specs.Programs.{IsFile}
 use Rattle.dp_tree.specs.declared.bundle.Bundle.{Bundle}
 use Rattle.dp_bundle.specs.declared.errors.BundleError.{BundleError}
-use Rattle.dp_bundle.specs.declared.errors.BundleError.TheVariants.{Source, TooLong, Memory}
+use Rattle.dp_bundle.specs.declared.errors.BundleError.TheVariants.{Memory}
 use Rattle.dp_tree.specs.declared.bundle.BundleFile.{BundleFile}
-use Rattle.dp_tree.specs.FileNames.{file_limit}
 use Rattle.dp_bundle.specs.Bundles.{Given, IsBundleFile, IsRefused, IsAnswer, MakesFrom, Makes, files_in}
-use Rattle.dp_bundle.specs.inner.Sources.{source_of}
 
 -- ---- one file
 
@@ -20,35 +16,6 @@ pub one_file : (name text : List ℕ) (tree : File) → ((other : File) → IsFi
     → (let made : BundleFile = record { name = name; text = text; tree = tree } in made) ≡ file
 one_file name text tree only file h =
     λ i. record { name = sym h.named i; text = sym h.spelled i; tree = only file.tree h.tree i }
-
-named_source : (number : ℕ) (why : ParseError) → why ≢ parse_error.Memory → source_of number why ≡ Source number why
-named_source number (parse_error.Lex w) differs = refl
-named_source number (parse_error.Unexpected w) differs = refl
-named_source number (parse_error.TooDeep w) differs = refl
-named_source number (parse_error.DoubleFunction w) differs = refl
-named_source number parse_error.Memory differs = absurd (differs refl)
-
--- a text has no tree, for this reason
-module _ (number : ℕ) (text : List ℕ) (short : length text ≤ file_limit) where
-  pub source_cause : (why : ParseError) → IsNoFile text why
-      → (source_of number why ≡ Memory) ⊎ IsRefused number text (source_of number why)
-  source_cause (parse_error.Lex w) wrong = inr (refl, short, (λ h. cc), wrong)
-  source_cause (parse_error.Unexpected w) wrong = inr (refl, short, (λ h. cc), wrong)
-  source_cause (parse_error.TooDeep w) wrong = inr (refl, short, (λ h. cc), wrong)
-  source_cause (parse_error.DoubleFunction w) wrong = inr (refl, short, (λ h. cc), wrong)
-  source_cause parse_error.Memory wrong = inl refl
-
-  pub source_refuses : (why : ParseError)
-      → ((other : ParseError) → other ≢ parse_error.Memory → IsNoFile text other
-      → (why ≡ other) ⊎ (why ≡ parse_error.Memory))
-      → (asked : BundleError) → IsRefused number text asked
-      → (source_of number why ≡ asked) ⊎ (source_of number why ≡ Memory)
-  source_refuses why refuses (Source file w) h = elim (refuses w h.2 h.3) [
-    | inl same ↦ inl (ap (source_of number) same ∙ named_source number w h.2 ∙ ap (λ n. Source n w) (sym h.0))
-    | inr memory ↦ inr (ap (source_of number) memory)
-  ]
-  source_refuses why refuses (TooLong file) h = let long : file_limit < length text = h.1 in absurd (omega arith)
-  source_refuses why refuses Memory h = absurd h
 
 -- ---- files that are made, and the rest
 

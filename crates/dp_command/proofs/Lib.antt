@@ -8,4 +8,3 @@ pub mod Formed
 pub mod Spellings
 pub mod Ids
 pub mod Short
-pub mod Codes

@@ -49,7 +49,8 @@ Value value bytes = Bare value bytes ⊎ Quoted value bytes
 
 -- "-" letter 1*SP value
 abbrev pub Argument : ℕ × List ℕ → Rule
-Argument o bytes = (is_letter o.0 ≡ true) × (Mark (codes "-" ++ o.0 ∷ []) >> SomeSpaces >> Value o.1) bytes
+Argument o bytes =
+    (is_letter o.0 ≡ true) × (Mark (codes "-" ++ o.0 ∷ []) >> SomeSpaces >> Value o.1) bytes
 
 -- 1*SP option
 abbrev pub Given : ℕ × List ℕ → Rule

@@ -19,7 +19,7 @@ use Rattle.dp_crews.specs.Relays.{AllBack, AllServed, AllWorked, Asked, Came, En
 use Rattle.dp_crews.specs.Twins.{Each, IsAtRest, IsTwinGate, Twinned, Twins}
 use Rattle.dp_crews.specs.Workers.{ServedEngine, ServedIde}
 use Rattle.dp_crews.specs.inner.Hires.{WhyUntwinned}
-use Rattle.dp_crews.specs.inner.Crewed.{CameBackFrom, CrewDone, Crewed, Gated, HasRisen, KindDone}
+use Rattle.dp_crews.specs.inner.Crewed.{CameBackFrom, CrewDone, Gated, HasRisen, KindDone}
 use Rattle.dp_crews.proofs.BoundLaws.{asks_all, at_least_both, at_least_fewer, serves_all}
 use Rattle.dp_crews.proofs.CrewEndLaws.{accepted_within, admits_split, each_join}
 use Rattle.dp_crews.proofs.OutcomeLaws.{engine_asked, ide_asked, steps_map}
@@ -455,38 +455,9 @@ module _ {G GIn GOut H HIn HOut : Type 0} (g : gate_of.Ghosts G GIn GOut) (h : g
   dialed_none dials starts NoThread d = absurd d
   dialed_none dials starts Memory d = inl (untouched g gates, untouched h doors)
 
-  pub crewed_gated : (dials starts : Faults) (gs : List G) (hs : List H)
-      (result : Result (Summary × List Entry) AllError)
-      → Crewed g h gates doors registrations sessions starts gs hs result
-      → Gated g h gates doors registrations sessions dials starts gs hs result
-  crewed_gated dials starts gs hs (Ok done) c = c
-  crewed_gated dials starts gs hs (Err GateFault) c = (
-    c.0,
-    c.1,
-    elim c.2 [
-      | inl ide ↦ inl ide
-      | inr engine ↦ inr (inl engine)
-    ],
-  )
-  crewed_gated dials starts gs hs (Err NoThread) c = c
-  crewed_gated dials starts gs hs (Err Memory) c = c
-
 module _ {G GIn GOut H HIn HOut : Type 0} (g : gate_of.Ghosts G GIn GOut) (h : gate_of.Ghosts H HIn HOut) (ides : G)
     (engines : H) (registrations sessions : ℕ) (dials starts : Faults) (later : starts.before ≤ starts.now)
     (gs : List G) (hs : List H) where
-  -- memory ran out before anything was served
-  pub none_served : gs ≡ [] → hs ≡ []
-      → AllServed g h ides engines registrations sessions dials starts gs hs (Err Memory)
-  none_served one other =
-      record {
-        ports = (
-          subst (Each (IsSamePort g ides)) (sym one) tt,
-          subst (Each (IsSamePort h engines)) (sym other) tt,
-        );
-        came = tt;
-        starts_later = later;
-      }
-
   module _ {E F : Type 0} (asked : Result ⊤ E) (served : Result ⊤ F) (many several : ℕ)
       (first : Twinned g many ides gs asked) (second : Twinned h several engines hs served) where
     twin_ports_of : Each (IsSamePort g ides) gs × Each (IsSamePort h engines) hs

@@ -1,5 +1,5 @@
 -- What serving so many IDEs and engines comes to.
-use Rattle.std.specs.Prelude.{◌≡◌, ℕ, ◌+◌, ◌-◌, ◌/◌, ◌==◌, ◌≤◌, Bool, true, false, List, count_by}
+use Rattle.std.specs.Prelude.{◌≡◌, ℕ, ◌+◌, ◌==◌, ◌≤◌, Bool, true, false, List, count_by}
 use Rattle.dp_registry.specs.declared.entry.Entry.{Entry}
 use Rattle.dp_registry.specs.declared.entry.Entry.TheVariants.{Register, Stop, Admit, Dismiss}
 use Rattle.dp_registry.specs.declared.entry.AdmitReply.TheVariants.{Given, Unknown, Busy}
@@ -48,10 +48,6 @@ summary journal t =
       failed = t.failed;
       starved = t.starved;
     }
-
--- the number of links that a worker serves, of so many that are shared out among so many workers
-abbrev pub part : ℕ → ℕ → ℕ → ℕ
-part count workers index = (count + workers - 1 - index) / workers
 
 -- so many registrations and sessions: each session is in one of six numbers
 pub record Summed (registrations sessions : ℕ) (journal : List Entry) (s : Summary) : Type 0 where

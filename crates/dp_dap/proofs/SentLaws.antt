@@ -177,17 +177,3 @@ pub refused_so : (request : Request) (old new : Known) (why : Refusal) → spec.
 unfolding answer
 refused_so request old new why did same =
     ap (spec.with_result request old) did ∙ ap (λ (k : Known). spec.with_result request k (Err why)) (sym same)
-
--- ---- requests that are allowed
-
--- a known request that is allowed, and comes for the first time if it may come once, leads to what its arguments ask
--- for
-pub tried_is : (request : Request) (known : Known) (asked : RequestName) (r : Option Wish)
-    → name_of request.command ≡ Some asked → allows asked known.stage ≡ true → spec.comes_again asked known ≡ false
-    → wish_of asked request.arguments ≡ r → spec.tried request known ≡ spec.by_wish r known
-tried_is request known asked r named may first is =
-    let done = spec.by_wish (wish_of asked request.arguments) known in
-    ap (λ (n : Option RequestName). spec.by_name n request.arguments known) named
-    ∙ (ap (λ (b : Bool). cond (b && not (spec.comes_again asked known)) done (Err refusal.NotNow)) may
-    ∙ (ap (λ (b : Bool). cond (true && not b) done (Err refusal.NotNow)) first
-    ∙ ap (λ (w : Option Wish). spec.by_wish w known) is))

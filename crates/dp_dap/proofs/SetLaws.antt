@@ -1,8 +1,6 @@
 -- Breakpoints that are removed and set one by one.
-use Rattle.std.proofs.Common.{◌≡◌, ℕ, ◌+◌, ◌<◌, Bool, true, false, cond, List, ◌∷◌, length, get_or, drop, Result, Ok, Err, sym, subst, ap, ◌∙◌}
+use Rattle.std.proofs.Common.{◌≡◌, ℕ, Bool, true, false, cond, List, Result, Ok, Err, sym, subst, ap, ◌∙◌}
 use Rattle.std.specs.Prelude.{IfOk, OnOk}
-use Rattle.std.proofs.lemmas.List.{drop_more}
-use Rattle.serde_json.specs.Data.{Data}
 use Rattle.serde_json.specs.View.{view}
 use Rattle.serde_json.specs.declared.value.Value.{Value}
 use Rattle.dp_command.specs.Canonical.{canonical}
@@ -10,7 +8,6 @@ use Rattle.dp_command.specs.declared.line.Line.{Line}
 use Rattle.dp_engine.specs.Answers.{turn_with}
 use Rattle.dp_engine.specs.declared.session.Report.{Report}
 use Rattle.dp_engine.specs.Session.{State}
-use Rattle.dp_dap_messages.specs.declared.arguments.Asked.{Asked}
 use Rattle.dp_dap_messages.specs.declared.effects.Refusal.{Refusal}
 use Rattle.dp_dap.specs.declared.effects.Unanswered.{Unanswered}
 use Rattle.dp_dap.specs.declared.effects.Unanswered.TheVariants.{Refused}
@@ -25,18 +22,6 @@ pub where_so : (holds : Bool) (state there other : State) → holds ≡ true →
     → state ≡ cond holds there other
 where_so true state there other so is = is
 where_so false state there other so is = absurd cc
-
--- one breakpoint more is set
-pub set_next : (path : List ℕ) (asked : List Asked) (index : ℕ) (a : Asked) (known next : Known) (told : Data)
-    → index < length asked → a ≡ get_or asked index a → (told, next) ≡ spec.set_one path a known
-    → spec.set_all path (drop index asked) known
-    ≡ (told ∷ (spec.set_all path (drop (index + 1) asked) next).0, (spec.set_all path (drop (index + 1) asked) next).1)
-set_next path asked index a known next told within is set =
-    let rest = drop (index + 1) asked in
-    let here : drop index asked ≡ a ∷ rest =
-    drop_more asked index a within ∙ ap (λ (x : Asked). x ∷ rest) (sym is) in
-    ap (λ (l : List Asked). spec.set_all path l known) here
-    ∙ ap (λ (p : Data × Known). (p.0 ∷ (spec.set_all path rest p.1).0, (spec.set_all path rest p.1).1)) (sym set)
 
 -- a breakpoint was set, and is kept
 pub set_done : (path : List ℕ) (number : ℕ) (line : Line) (report : Report) (old mid new : Known) (value : Value)

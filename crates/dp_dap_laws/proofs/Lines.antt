@@ -59,9 +59,6 @@ turned_to Holds state line name formed called stays done =
 unchanged : (state : State) → IsSame state state
 unchanged state = record { output = refl; writes = refl }
 
-stays_same : (state next : State) → next ≡ state → IsSame state next
-stays_same state next e = subst (IsSame state) (sym e) (unchanged state)
-
 featured : (state : State) (features : Features) → IsSame state (record state { features = features })
 featured state features = record { output = by state.phase; writes = refl } where
   by : (phase : Phase) → output_by phase (record state { features = features }) ≡ output_by phase state

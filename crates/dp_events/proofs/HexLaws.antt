@@ -1,6 +1,6 @@
 -- Bytes in hexadecimal are read as they are spelled, and are spelled as they are read.
 use Rattle.std.proofs.Common.{◌≡◌, ℕ, ◌+◌, ◌-◌, ◌*◌, ◌/◌, ◌%◌, ◌<◌, ◌≤◌, ◌==◌, Bool, true, false, ◌&&◌, List, [], ◌∷◌, ◌++◌}
-use Rattle.std.proofs.Common.{Option, Some, None, nat_le, nat_lt, option_map, codes, length, refl, sym, ap, ◌∙◌, append_assoc, append-nil, arith}
+use Rattle.std.proofs.Common.{Option, Some, None, nat_le, nat_lt, option_map, codes, refl, sym, ap, ◌∙◌, append_assoc, arith}
 use Rattle.std.proofs.lemmas.Bool.{and_right}
 use Rattle.std.proofs.lemmas.Bool.Decides.{nat_tests}
 use Rattle.std.proofs.lemmas.Option.{same_Some}
@@ -135,17 +135,3 @@ module _ (part bytes rest : List ℕ) (so_far : pairs part ≡ option_map (λ bs
             (pairs more)
         by None p = rw (b, p) refl
         by (Some left) p = rw (b, p) (ap Some (sym (append_assoc bytes (byte ∷ []) left)))
-
-  pub pairs_bad : (high low : ℕ) (more : List ℕ) → rest ≡ high ∷ low ∷ more → byte_in high low ≡ None
-      → None ≡ pairs part
-  pairs_bad high low more e b = sym (so_far ∙ ap (λ r. option_map (λ bs. bytes ++ bs) (pairs r)) e ∙ rw b refl)
-
-  pub pairs_done : rest ≡ [] → Some bytes ≡ pairs part
-  pairs_done e = sym (so_far ∙ ap (λ r. option_map (λ bs. bytes ++ bs) (pairs r)) e ∙ ap Some (append-nil bytes))
-
-  pub pairs_odd : length rest < 2 → 0 < length rest → None ≡ pairs part
-  pairs_odd short some = sym (so_far ∙ by rest short some) where
-    by : (r : List ℕ) → length r < 2 → 0 < length r → option_map (λ bs. bytes ++ bs) (pairs r) ≡ None
-    by [] short some = absurd (omega arith)
-    by (c ∷ []) short some = refl
-    by (c ∷ d ∷ r) short some = absurd (omega arith)

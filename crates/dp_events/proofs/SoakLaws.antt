@@ -40,10 +40,6 @@ Free link events = (other : ℕ) → link ≤ other → was makes other events �
 abbrev AllOn : ℕ → List Event → Type 0
 AllOn link events = AllByRecursion (λ e. e.link ≡ link) events
 
-all_on : (link : ℕ) (a b : List Event) → AllOn link a → AllOn link b → AllOn link (a ++ b)
-all_on link [] b f g = g
-all_on link (e ∷ a) b f g = (f.0, all_on link a b f.1 g)
-
 elsewhere : (link other : ℕ) (events : List Event) → link < other → AllOn link events
     → was makes other events ≡ false
 elsewhere link other [] less h = refl

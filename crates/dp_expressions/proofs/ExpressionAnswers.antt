@@ -23,7 +23,7 @@ use Rattle.dp_token_rules.proofs.Terminals.{placed, mark_passes, mark_fails, not
 use Rattle.dp_token_rules.proofs.Answers.{Rules, JoinedAt, EitherAt, GivesAt, OneAt, MarkAt, MadeAt, PerhapsAt, IsRead, Answers, Follows, Can, Apart, StartsIn, give, behind, mark_starts, joined_starts, made_starts, nests_starts, gives_apart, starts_follow, gives_follow, either_follows, joined_answers, made_answers, gives_answers, equal_answers, either_answers, perhaps_answers, within_answers}
 use Rattle.dp_token_rules.proofs.Readers.{marked, mark_then}
 use Rattle.dp_expressions.proofs.Heights.{looser, stop_at, looser_less}
-use Rattle.dp_expressions.proofs.Least.{zero_text, zero_tree, gives_it, then_nothing, least_whole, least_coalesce, variable_text, variable_place, least_operand, least_expression, least_is_place}
+use Rattle.dp_expressions.proofs.Least.{zero_text, zero_tree, gives_it, then_nothing, least_whole, least_coalesce, least_operand, least_expression}
 use Rattle.dp_expressions.proofs.Factored.{PushTail, Going, AssignmentTail, Rest, spells, no_push, to_expression, from_expression}
 use Rattle.dp_token_rules.proofs.More.{level_self, sort_starts, one_of_sort, one_then, joined_follows, choice_answers, NestedAt, nested_answers}
 use Rattle.dp_expressions.proofs.ExpressionParts.{At, Under, stop_of, may_read, Reads, inner_answers, some_whole_under, some_coalesce_under, OperandAt, OpeningAt, CoalesceAt, IncludeAt, begins_inclusion}
@@ -507,11 +507,3 @@ is_expression_answers level ts = expression_answers part.Whole level ts refl
 pub place_answers : (level : ℕ) (ts : List Token) → Answers ◌≤◌ IsPlace (stop_at 1) level ts (reading_place level ts)
 unfolding reading_place
 place_answers level ts = operands.place_answers level (below level) (below_reads level) ts
-
--- ---- each level has an expression and a place
-
-pub some_expression : (level : ℕ) → Can ◌≤◌ level IsExpression
-some_expression level m above = (zero_text, zero_tree, least_expression m)
-
-pub some_place : (level : ℕ) → Can ◌≤◌ level IsPlace
-some_place level m above = (variable_text, variable_place, least_is_place m)

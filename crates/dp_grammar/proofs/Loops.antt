@@ -1,11 +1,11 @@
 -- Pieces, each from the value of the last, up to an end, and any number of pieces.
 use Rattle.std.specs.declared.ops.ControlFlow.{ControlFlow}
 use Rattle.std.specs.declared.ops.ControlFlow.TheVariants.{Continue, Break}
-use Rattle.std.proofs.Common.{◌≡◌, inl, inr, ℕ, zero, suc, ◌<◌, Bool, true, false, ◌||◌, List, [], ◌∷◌, ◌++◌, length, Option, Some, Ok, Err, sym, refl, ap, ◌∙◌, subst, append-nil, append_assoc, length-append, cond, arith}
+use Rattle.std.proofs.Common.{◌≡◌, inl, inr, ℕ, zero, suc, ◌<◌, Bool, true, false, ◌||◌, List, [], ◌∷◌, ◌++◌, length, Option, Ok, Err, sym, refl, ap, ◌∙◌, subst, append-nil, append_assoc, length-append, cond, arith}
 use Rattle.dp_grammar.specs.inner.Input.{Outcome, Reader, and_then, gives, made, until, closed, next_of, many_step}
 use Rattle.dp_grammar.specs.Rules.{head, Gives, Chain, Step}
 use Rattle.dp_grammar.proofs.Truth.{or_left, or_right}
-use Rattle.dp_grammar.proofs.Answers.{Rules, Stop, JoinedAt, GivesAt, MadeAt, ClosedAt, StepAt, ManyAt, IsRead, Answers, Follows, Can, GoesOn, StartsIn, Apart, give, given, begun, made_starts, gives_follow, gives_apart, made_apart, starts_in_more, joined_answers, made_answers, gives_answers, equal_answers, either_answers, either_answers_back}
+use Rattle.dp_grammar.proofs.Answers.{Rules, Stop, JoinedAt, GivesAt, MadeAt, ClosedAt, StepAt, ManyAt, IsRead, Answers, Follows, GoesOn, StartsIn, Apart, give, given, begun, made_starts, gives_follow, gives_apart, made_apart, starts_in_more, joined_answers, made_answers, gives_answers, equal_answers, either_answers, either_answers_back}
 
 -- where a step may end: between two pieces, or at the end
 abbrev pub step_stop : {T A B : Type 0} → Stop T A → Stop T B → ControlFlow B A → Option T → Bool
@@ -20,16 +20,6 @@ OnwardAt piece end (Break b) = GivesAt b
 pub closed_now : {T L A B : Type 0} (piece : A → Rules T L A) (end : A → Rules T L B) (m : L) (a : A) (ts : List T)
     (b : B) → end a m ts b → ClosedAt piece end a m ts b
 closed_now piece end m a ts b h = record { count = 0; chain = h }
-
-pub closed_starts : {T L A B : Type 0} (piece : A → Rules T L A) (end : A → Rules T L B) (a : A)
-    (test : Option T → Bool) → StartsIn (piece a) test → StartsIn (end a) test → StartsIn (ClosedAt piece end a) test
-closed_starts {T = T} piece end a test pieces ends m text b c = go c.count c.chain
-  where
-    go : (count : ℕ) → Chain (λ x. piece x m) (λ x. end x m) count a text b
-        → (x : T) × (rest : List T) × (text ≡ x ∷ rest) × (test (Some x) ≡ true)
-    go zero h = ends m text b h
-    go (suc count) j =
-        let s = pieces m j.front j.value j.one in (s.0, s.1 ++ j.back, j.split ∙ ap (λ l. l ++ j.back) s.2, s.3)
 
 -- Where each piece begins with what may be between pieces, and so does each end with what may be behind it, the whole
 -- does.
@@ -207,22 +197,6 @@ module _ {T L A : Type 0} (rule : Rules T L A) where
 
   pub many_none : (m : L) → ManyAt rule m [] []
   many_none m = record { count = 0; chain = record { empty = refl; same = refl } }
-
-  pub many_can : (Above : L → L → Type 0) (level : L) → Can Above level (ManyAt rule)
-  many_can Above level m above = ([], [], many_none m)
-
-  -- what any number of pieces, with what may be behind them, begin with
-  pub many_follows : {B : Type 0} (first_stop : Stop T B) (test : Option T → Bool) (stop : Stop T (List A))
-      → StartsIn rule test → ((b : B) (s : Option T) → test s ≡ true → first_stop b s ≡ true)
-      → ((b : B) (all : List A) (s : Option T) → stop all s ≡ true → first_stop b s ≡ true)
-      → Follows first_stop (λ b. ManyAt rule) stop
-  many_follows first_stop test stop starts next last m b ts all r c here = go c.count c.chain
-    where
-      go : (count : ℕ) → Chain (λ x. one_more x m) (λ x. Gives x) count [] ts all → first_stop b (head (ts ++ r)) ≡ true
-      go zero g = ap (λ l. first_stop b (head (l ++ r))) g.empty ∙ last b all (head r) here
-      go (suc count) j = ap (λ l. first_stop b (head l)) (ap (λ l. l ++ r) j.split ∙ append_assoc j.front j.back r)
-          ∙ next b (head (j.front ++ (j.back ++ r))) (begun (one_more []) test
-          (made_starts rule (λ a. a ∷ []) test starts) m j.front (j.back ++ r) j.value j.one)
 
   module _ (Above : L → L → Type 0) (same_level : (l : L) → Above l l) (test : Option T → Bool) (piece_stop : Stop T A)
       (stop : Stop T (List A)) (level : L) (piece : Reader T A)

@@ -1,7 +1,7 @@
 -- What a text spells, byte by byte.
 use Rattle.std.proofs.Common.{◌≡◌, ◌≢◌, inl, inr, ℕ, Bool, true, false, cond, eqb, List, [], ◌∷◌, ◌++◌, Option, Some, None, refl, sym, ap, ◌∙◌, subst, append_assoc, append-nil}
 use Rattle.std.proofs.lemmas.Bool.{eqb-true, eqb-false, ne_eqb}
-use Rattle.dp_ide.specs.Scripts.{Behind, InText, Text, byte_of}
+use Rattle.dp_ide.specs.Scripts.{InText, Text, byte_of}
 use Rattle.dp_ide.specs.inner.Readers.{Reads, ReadsOn, escaped, first_of, in_hexadecimal}
 use Rattle.dp_grammar.specs.Prefixes.{◌>>=◌}
 
@@ -78,9 +78,6 @@ first_begins (b ∷ bs) byte rest is = feed (eqb b 92) refl is where
 
 -- ---- a text
 
-pub reads_first : (bytes : List ℕ) → ReadsOn bytes [] bytes
-reads_first bytes = record { goes = λ later is. is; comes = λ all is. (all, refl, is) }
-
 -- what a text spells that begins so
 text_behind_first : (later rest : List ℕ) (byte : ℕ) (behind : List ℕ) → first_of rest ≡ Some (byte, behind)
     → Text later rest → (more : List ℕ) × (later ≡ byte ∷ more) × Text more behind
@@ -130,36 +127,3 @@ reads_none bytes text rest some first so_far = λ other is.
           let also : first_of rest ≡ Some (a, is.back) = ap first_of is.whole ∙ in_text_first a is.front is.back
           is.first in
           let both : Some (a, is.back) ≡ None = sym also ∙ first in cc
-
--- ---- a text behind a word
-
-pub behind_nothing : Reads Behind [] (Some [])
-behind_nothing = (inl (refl, refl), λ other is. alone other is) where
-  alone : (other : List ℕ) → Behind other [] → other ≡ []
-  alone other (inl (none, same)) = none
-  alone other (inr is) = let whole : [] ≡ 32 ∷ is.back = is.whole ∙ ap (λ l. l ++ is.back) is.first in cc
-
-pub behind_space : (rest : List ℕ) (found : Option (List ℕ)) → Reads Text rest found → Reads Behind (32 ∷ rest) found
-behind_space rest None none = λ other is. no other is where
-  no : (other : List ℕ) → Behind other (32 ∷ rest) → ⊥
-  no other (inl (empty, same)) = cc
-  no other (inr is) =
-      let whole : 32 ∷ rest ≡ 32 ∷ is.back = is.whole ∙ ap (λ l. l ++ is.back) is.first in
-      let rests : is.back ≡ rest = cc in
-      none other (subst (Text other) rests is.second)
-behind_space rest (Some text) is = (
-  inr (record { front = 32 ∷ []; back = rest; whole = refl; first = refl; second = is.0 }),
-  λ other also. alone other also,
-) where
-  alone : (other : List ℕ) → Behind other (32 ∷ rest) → other ≡ text
-  alone other (inl (empty, same)) = cc
-  alone other (inr also) =
-      let whole : 32 ∷ rest ≡ 32 ∷ also.back = also.whole ∙ ap (λ l. l ++ also.back) also.first in
-      let rests : also.back ≡ rest = cc in
-      is.1 other (subst (Text other) rests also.second)
-
-pub behind_other : (bytes : List ℕ) → bytes ≢ [] → ((rest : List ℕ) → bytes ≢ 32 ∷ rest) → Reads Behind bytes None
-behind_other bytes some other = λ text is. no text is where
-  no : (text : List ℕ) → Behind text bytes → ⊥
-  no text (inl (empty, same)) = some same
-  no text (inr is) = other is.back (is.whole ∙ ap (λ l. l ++ is.back) is.first)

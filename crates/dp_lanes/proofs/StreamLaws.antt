@@ -1,5 +1,5 @@
 -- A stream is cut in one way, in whatever pieces it comes: for both lanes.
-use Rattle.std.proofs.Common.{◌≡◌, ℕ, ◌+◌, ◌<◌, ◌≤◌, min, true, false, not, List, [], ◌∷◌, ◌++◌, length, drop, flat_map}
+use Rattle.std.proofs.Common.{◌≡◌, ℕ, ◌+◌, ◌≤◌, min, true, false, not, List, [], ◌∷◌, ◌++◌, length, drop, flat_map}
 use Rattle.std.proofs.Common.{refl, sym, ap, subst, ◌∙◌, inl, inr, append_assoc, append-nil, arith, length-append}
 use Rattle.std.proofs.lemmas.List.Concat.{flat_map-append}
 use Rattle.std.proofs.Math.Seq.{drop-append_seam}
@@ -91,15 +91,6 @@ module _ (kind : LaneKind) (a b : List ℕ) (texts : List (List ℕ)) (rest : Li
 
 -- ---- what a lane hands out
 
-pub hands_none : (kind : LaneKind) (received : Received) (before : List ℕ) → Hands kind received received before before
-hands_none kind received before = record {
-  texts = [];
-  each = tt;
-  held = refl;
-  dropped = λ small. omega arith;
-  put = sym (append-nil before);
-}
-
 module _ (kind : LaneKind) (old mid new : Received) (before so after text rest : List ℕ)
     (hands : Hands kind old mid before so)
     (begins : BeginsWith kind mid.held text rest) where
@@ -138,11 +129,6 @@ module _ (kind : LaneKind) (old mid new : Received) (before so after text rest :
 pub frame_some : (kind : LaneKind) (text : List ℕ) → 1 ≤ length (frame kind text)
 frame_some Up text = omega (arith, frame_length text)
 frame_some Down text = omega (arith, length-append text (0 ∷ []))
-
-pub rest_shorter : (kind : LaneKind) (held text rest : List ℕ) → BeginsWith kind held text rest
-    → length rest < length held
-rest_shorter kind held text rest b =
-    omega (arith, ap length b.whole, length-append (frame kind text) rest, frame_some kind text)
 
 -- ---- a lane that follows its stream
 

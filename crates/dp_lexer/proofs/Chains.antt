@@ -157,9 +157,6 @@ meet (p ∷ ps) (q ∷ qs) r s come others same end other =
 
 -- ---- a step
 
-pub start_lexed : (at : ℕ) (bytes : List ℕ) → IsLexed at bytes [] 1 bytes
-start_lexed at bytes = record { pieces = []; whole = refl; each = tt; tokens = refl; lines = refl }
-
 pub next_lexed : (at : ℕ) (bytes rest : List ℕ) (ts : List Token) (line : ℕ) (k : Option TokenKind) (n : ℕ)
     → IsLexed at bytes ts line rest → shown (piece_at rest) ≡ Ok (k, n)
     → IsLexed at bytes (ts ++ token_at (at + (length bytes - length rest)) line k n) (line + feeds (take n rest))
@@ -198,11 +195,6 @@ pub takes_some : (rest : List ℕ) (k : Option TokenKind) (n : ℕ) → shown (p
 takes_some rest k n e =
     let f = shown_ok (piece_at rest) k n _ refl e in let x : Piece
     × ℕ = (f.0, n) in let there = piece_there rest x f.1 in (there.some, there.within)
-
-pub end_lexed : (at : ℕ) (bytes : List ℕ) (ts : List Token) (line : ℕ) → IsLexed at bytes ts line []
-    → AreTokensFrom at bytes ts
-end_lexed at bytes ts line l =
-    record { pieces = l.pieces; whole = sym (append-nil (texts l.pieces)) ∙ l.whole; each = l.each; tokens = l.tokens }
 
 whole_tokens : (at : ℕ) (bytes : List ℕ) (ts : List Token) (o : AreTokensFrom at bytes ts)
     → texts o.pieces ++ [] ≡ bytes

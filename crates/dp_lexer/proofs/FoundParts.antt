@@ -8,7 +8,6 @@ use Rattle.dp_lexer.specs.Bytes.{is_octal, is_hexadecimal, begins, Each}
 use Rattle.dp_lexer.specs.Chain.{texts, Come}
 use Rattle.dp_lexer.specs.Quotes.{Part, plain, letter, octal, hexadecimal, pair, letter_of, interpolates, stays, IsPart, meaning, Parts, meanings, IsDoubled, IsBadPart, IsBadInside}
 use Rattle.dp_lexer.specs.inner.Lexer.{up_to, part_found, octal_at, hexadecimal_at, number_or_pair, escape_by, escape_at, part_at, Doubled, ahead, skipped, joined, doubled, shown_part}
-use Rattle.dp_lexer.specs.declared.quotes.Meant.{Meant}
 use Rattle.dp_lexer.proofs.FoundTexts.{whole_rest}
 use Rattle.dp_lexer.proofs.Runs.{and_parts, equal_test, other_test, false_test, one_more, two_more, up_to_within, up_to_most, up_to_passes, up_to_stops, up_to_exact}
 
@@ -164,9 +163,6 @@ hexadecimal_there b c u is x e =
       some = omega arith;
       within = omega (arith, up_to_within is_hexadecimal 2 u);
     }
-
-none_test : (o : Option ℕ) → o ≡ None → is_none o ≡ true
-none_test o e = ap is_none e
 
 stays_is : (c : ℕ) (u : List ℕ) → letter_of c ≡ None → is_octal c ≡ false
     → (c == 120 && begins is_hexadecimal u) ≡ false → (c == 117) ≡ false → stays c u ≡ true
@@ -405,9 +401,6 @@ pub doubled_there : (z : List ℕ) → DoubledThere z (doubled 0 z)
 doubled_there z = doubled_there_by (length z) z (omega arith)
 
 -- ---- for the code
-
-meant_part : Meant → ℕ → Option (Meant × ℕ)
-meant_part w n = Some (w, n)
 
 bytes_in : Option (List ℕ × ℕ) → List ℕ
 bytes_in None = []

@@ -18,18 +18,9 @@ pub or_none : (a b : Bool) → (a || b) ≡ false → (a ≡ false) × (b ≡ fa
 or_none true b e = absurd (cc)
 or_none false b e = (refl, e)
 
-pub and_true : (a b : Bool) → a ≡ true → b ≡ true → (a && b) ≡ true
-and_true a b e f = λ i. e i && f i
-
-pub and_false : (a b : Bool) → a ≡ false → (a && b) ≡ false
-and_false a b e = ap (λ k. k && b) e
-
 pub and_false_behind : (a b : Bool) → b ≡ false → (a && b) ≡ false
 and_false_behind true b e = e
 and_false_behind false b e = refl
-
-pub or_false : (a b : Bool) → a ≡ false → b ≡ false → (a || b) ≡ false
-or_false a b e f = λ i. e i || f i
 
 pub or_left : (a b : Bool) → a ≡ true → (a || b) ≡ true
 or_left a b e = ap (λ k. k || b) e
@@ -99,16 +90,6 @@ run_front p (x ∷ xs) (suc k) le = go (λ h. run_front p xs k h) (p x) refl le
 
 pub run_passes : (p : ℕ → Bool) (xs : List ℕ) → Each p (take (prefix_len p xs) xs)
 run_passes p xs = run_front p xs (prefix_len p xs) (omega arith)
-
--- behind a run stands what does not pass
-pub run_stops : (p : ℕ → Bool) (xs : List ℕ) → begins p (drop (prefix_len p xs) xs) ≡ false
-run_stops p [] = refl
-run_stops p (x ∷ xs) = go (run_stops p xs) (p x) refl
-  where
-    go : begins p (drop (prefix_len p xs) xs) ≡ false → (c : Bool) → p x ≡ c
-        → begins p (drop (cond c (1 + prefix_len p xs) 0) (x ∷ xs)) ≡ false
-    go ih true e = ap (λ n. begins p (drop n (x ∷ xs))) (one_more (prefix_len p xs)) ∙ ih
-    go ih false e = e
 
 -- a run that something stops is as long as this
 pub run_exact : (p : ℕ → Bool) (xs more : List ℕ) → Each p xs → begins p more ≡ false

@@ -70,7 +70,8 @@ pub data IsBadByte (rest : List ℕ) (at : ℕ) : Type 0 where
   -- ? before >
   closing_tag : (t : List ℕ) → at ≡ 0 → rest ≡ codes "?>" ++ t → IsBadByte rest at
   -- a point before a digit
-  point : (d : ℕ) (t : List ℕ) → at ≡ 0 → rest ≡ codes "." ++ d ∷ t → is_digit d ≡ true → IsBadByte rest at
+  point : (d : ℕ) (t : List ℕ) → at ≡ 0 → rest ≡ codes "." ++ d ∷ t → is_digit d ≡ true
+      → IsBadByte rest at
   -- a digit, a letter, an underscore or a point directly behind a number
   behind_number : (n b : ℕ) (t more : List ℕ) → at ≡ length t → rest ≡ t ++ b ∷ more
       → IsLongestNumber n t (b ∷ more) → runs_on b ≡ true → IsBadByte rest at

@@ -1,7 +1,7 @@
 -- Bytes up to the first place where a mark stands.
 use Rattle.std.proofs.Common.{◌≡◌, inr, ℕ, zero, suc, ◌+◌, ◌-◌, ◌<◌, ◌≤◌, length-drop, Bool, true, false, ◌&&◌, [], ◌∷◌, ◌++◌, length, take, drop, Option, Some, None, sym, refl, ap, ◌∙◌, subst, append_assoc, append-nil, length-append, cond, arith, nat_eq}
 use Rattle.std.proofs.lemmas.Bool.{eqb-true, eq-eqb}
-use Rattle.std.specs.Option.{option_map, IfSome}
+use Rattle.std.specs.Option.{option_map}
 use Rattle.std.proofs.lemmas.List.{drop-append-le, take-append-drop}
 use Rattle.memchr.specs.Find.{OccursAt, FindsNeedle}
 use Rattle.memchr.proofs.lemmas.MatchLemmas.{OccursAt-from_part, OccursAt-split}
@@ -275,7 +275,3 @@ place_is m ts o finds = go o (mark_place m ts) (searched m ts) finds
         same zero zero d e = let equal : k ≡ at = omega arith in ap Some equal
         same zero (suc y) d e = absurd (not_earlier m ts at k f h.1 (omega arith))
         same (suc x) y d e = absurd (h.0.before at (omega arith) (omega arith) (found_occurs m ts at f))
-
-pub place_within : (m ts : Text) (o : Option ℕ) → FindsNeedle ts m 0 o → IfSome o (λ at. at + length m ≤ length ts)
-place_within m ts None finds = tt
-place_within m ts (Some at) finds = finds.1.fits

@@ -1,5 +1,5 @@
 -- Names: they end before the first byte that is no byte of a name, and can be made longer.
-use Rattle.std.proofs.Common.{◌≤◌, ◌≡◌, ℕ, zero, suc, ◌+◌, ◌<◌, Bool, true, false, not, ◌||◌, ◌&&◌, List, [], ◌∷◌, ◌++◌, length, take, drop, Option, Ok, sym, refl, ap, ◌∙◌, subst, length-append, cond, arith, nat_eq}
+use Rattle.std.proofs.Common.{◌≤◌, ◌≡◌, ℕ, zero, suc, ◌+◌, ◌<◌, Bool, true, false, not, ◌||◌, ◌&&◌, List, [], ◌∷◌, ◌++◌, length, take, drop, Option, Ok, sym, refl, ap, ◌∙◌, length-append, cond, arith, nat_eq}
 use Rattle.std.specs.List.{prefix_len, list_all, list_any}
 use Rattle.dp_markup.specs.inner.Input.{head, next, refuse, ◌>>=◌, tested}
 use Rattle.dp_markup.specs.Rules.{Tested}
@@ -198,10 +198,3 @@ pub new_name_reads : (found : Attributes) (level : ℕ)
 new_name_reads found level ts =
     tested_answers ◌≤◌ same_level (λ _. Name) (is_new found) name_stop level ts (longer found) (name ts)
     (name_reads level ts)
-
--- the name of one letter, which no attribute before has
-pub some_new_name : (found : Attributes) → (n : Text) × Tested Name (is_new found) n n
-some_new_name found =
-    let start : Name (97 ∷ []) (97 ∷ []) = record { same = refl; is_name = refl } in
-    let w = longer found 0 (97 ∷ []) (97 ∷ []) start in
-    (w.1, record { spelled = subst (λ l. Name l w.1) w.2.same w.2; passes = w.3 })

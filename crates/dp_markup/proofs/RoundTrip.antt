@@ -121,9 +121,6 @@ module _ (p : ℕ → Bool) (plain : (b : ℕ) → nat_eq b 60 ≡ false → nat
     escaped_spelled b small =
         go (nat_eq b 38) (nat_eq b 60) (nat_eq b 62) (nat_eq b 34) (nat_eq b 39) refl refl refl refl refl
       where
-        Spelt : Text → Type 0
-        Spelt text = (Reference or One (passing p)) text b
-
         at : (c : ℕ) (text : Text) → nat_eq b c ≡ true → Reference text c → (Reference or One (passing p)) text b
         at c text is h = inl (subst (λ x. Reference text x) (sym (eqb-true b c is)) h)
 

@@ -21,7 +21,8 @@ attribute_length name value =
       length-append name (codes "=\""),
     )
 
-pub attributes_length : (attributes : Attributes) → length (flat_map attribute_text attributes) ≡ attributes_size attributes
+pub attributes_length : (attributes : Attributes)
+    → length (flat_map attribute_text attributes) ≡ attributes_size attributes
 attributes_length [] = refl
 attributes_length (a ∷ more) =
     omega (

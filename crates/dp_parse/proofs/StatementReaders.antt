@@ -28,12 +28,6 @@ pub record IsPartReader {A : Type 0} (base : ℕ) (rule : Rules Depth A) (stop :
   pub answers : base ≤ level.bodies → (ts : List Token) → Answers Deeper rule stop level ts (p ts)
   pub least : (m : Depth) → base ≤ m.bodies → (ts : List Token) × (a : A) × rule m ts a
 
--- the same where more levels are left
-pub with_more : {A : Type 0} (base more : ℕ) (rule : Rules Depth A) (stop : Stop A) (level : Depth) (p : Reader A)
-    → base ≤ more → IsPartReader base rule stop level p → IsPartReader more rule stop level p
-with_more base more rule stop level p less reader =
-    record { answers = λ some. reader.answers (omega arith); least = λ m some. reader.least m (omega arith) }
-
 module _ (base : ℕ) (level : Depth) where
   pub gives_reader : {A : Type 0} (a : A) (stop : Stop A) → IsPartReader base (GivesAt a) stop level (gives a)
   gives_reader a stop =

@@ -1,5 +1,5 @@
 -- Lists of arrivals as they are given, and a place in them that moves on.
-use Rattle.std.proofs.Common.{◌≡◌, ℕ, zero, suc, ◌+◌, ◌-◌, ◌≤◌, ◌<◌, ◌==◌, ◌≢◌, Bool, true, false, true≢false, nat_lt}
+use Rattle.std.proofs.Common.{◌≡◌, ℕ, zero, suc, ◌+◌, ◌-◌, ◌≤◌, ◌<◌, ◌==◌, Bool, true, false, nat_lt}
 use Rattle.std.proofs.Common.{List, [], ◌∷◌, ◌++◌, length, take, drop, refl, sym, ap, ◌∙◌, subst, arith}
 use Rattle.std.proofs.Common.{append_assoc, append-nil, take-append-drop}
 use Rattle.std.specs.Prelude.{if◌then◌else◌, min, ◌^◌, ◌⊎◌}
@@ -10,45 +10,13 @@ use Rattle.std.proofs.lemmas.List.{drop-drop, drop_all, take_all, length-drop}
 use Rattle.std.proofs.Math.Seq.{take-add}
 use Rattle.std.specs.Prelude.{Vec}
 use Rattle.std.specs.declared.alloc.Global.{Global}
-use Rattle.dp_polled.specs.declared.polled.Look.TheVariants.{NotYet, Bytes, End}
-use Rattle.dp_polled.specs.Arrivals.{Arrival, Coming, arrivals_of, bytes_of, first_bytes, found, is_silent, is_there, less, look_at, next}
+use Rattle.dp_polled.specs.declared.polled.Look.TheVariants.{NotYet}
+use Rattle.dp_polled.specs.Arrivals.{Arrival, Coming, arrivals_of, bytes_of, first_bytes, found, is_there, less, look_at, next}
 use Rattle.dp_polled.specs.inner.Places.{coming_at, cut}
 
 -- ---- arrivals that say nothing
-silent_at : (k : ℕ) (bytes : List ℕ) (b : Arrival) (more : List Arrival) → (length bytes == 0) ≡ true →
-    (next (less 0 ((k, bytes) ∷ b ∷ more)) ≡ next ((k, bytes) ∷ b ∷ more))
-    × (length (less 0 ((k, bytes) ∷ b ∷ more)) + 1 ≤ length ((k, bytes) ∷ b ∷ more))
-silent_at k [] b more e = (refl, omega arith)
-silent_at k (x ∷ xs) b more e = let bad : suc (length xs) ≡ 0 = grind (arith, nat_tests) in absurd (omega arith)
-
-pub goes_past : (l : List Arrival) → is_silent l ≡ true →
-    (next (less 0 l) ≡ next l) × (length (less 0 l) + 1 ≤ length l)
-goes_past [] e = absurd (true≢false (sym e))
-goes_past (a ∷ []) e = absurd (true≢false (sym e))
-goes_past (a ∷ b ∷ more) e = silent_at a.0 a.1 b more e
-
-pub stands : (l : List Arrival) → is_silent l ≡ false → next l ≡ l
-stands [] e = refl
-stands (a ∷ more) e = ap (λ (b : Bool). if b then next more else (a ∷ more)) e
 
 -- ---- bytes of the first
-less_by : (n : ℕ) (a : Arrival) (more : List Arrival) (b : Bool) → nat_lt n (length a.1) ≡ b → n ≤ length a.1 →
-    a.1 ++ bytes_of more ≡ take n a.1 ++ bytes_of (if b then ((a.0, drop n a.1) ∷ more) else more)
-less_by n a more true e most =
-    sym (ap (λ (l : List ℕ). l ++ bytes_of more) (take-append-drop n a.1))
-    ∙ append_assoc (take n a.1) (drop n a.1) (bytes_of more)
-less_by n a more false e most =
-    let all : length a.1 ≤ n = grind (arith, nat_tests) in
-    sym (ap (λ (l : List ℕ). l ++ bytes_of more)
-    (sym (append-nil (take n a.1)) ∙ ap (λ (l : List ℕ). take n a.1 ++ l) (sym (drop_all n a.1 all))
-    ∙ take-append-drop n a.1))
-
-pub bytes_less : (n : ℕ) (l : List Arrival) → n ≤ length (first_bytes l) →
-    bytes_of l ≡ take n (first_bytes l) ++ bytes_of (less n l)
-bytes_less n [] most =
-    let none : n ≡ 0 = omega arith in
-    ap (λ (k : ℕ). take k [] ++ bytes_of (less k [])) (sym none)
-bytes_less n (a ∷ more) most = less_by n a more (nat_lt n (length a.1)) refl most
 
 -- ---- a place moves on
 bytes_last : (over : List Arrival) (a : Arrival) → bytes_of (over ++ a ∷ []) ≡ bytes_of over ++ a.1
@@ -143,22 +111,6 @@ moves_on all first at n some whole =
     ∙ passes (arrivals_of (take first all)) a more at n n_is
     ∙ sym (ap (λ (r : List Arrival). further n (coming_at (arrivals_of (take first all)) r at)) rest))
 
--- behind the last nothing is left
-pub moves_not : (all : List Given) (first at n : ℕ) → length all ≤ first →
-    n ≤ length (first_bytes (place all first at).left) → place all first at ≡ further n (place all first at)
-moves_not all first at n over most =
-    let rest : arrivals_of (drop first all) ≡ [] = ap arrivals_of (drop_all first all over) in
-    let n_in : n ≤ 0 = subst (λ (r : List Arrival). n ≤ length (first_bytes (cut at r))) rest most in
-    let none : n ≡ 0 = omega arith in
-    subst (λ (r : List Arrival). coming_at (arrivals_of (take first all)) r at
-    ≡ further n (coming_at (arrivals_of (take first all)) r at)) (sym rest)
-    (subst (λ (k : ℕ). coming_at (arrivals_of (take first all)) [] at
-    ≡ further k (coming_at (arrivals_of (take first all)) [] at)) (sym none)
-    (λ i. record {
-      left = [];
-      given = sym (append-nil ((coming_at (arrivals_of (take first all)) [] at).given)) i;
-    }))
-
 -- ---- a slice up to its end is all of it
 pub take_rest : (bytes : List ℕ) (at : ℕ) → take (length bytes - at) (drop at bytes) ≡ drop at bytes
 take_rest bytes at =
@@ -179,25 +131,6 @@ pub bytes_next : (l : List Arrival) → bytes_of (next l) ≡ bytes_of l
 bytes_next [] = refl
 bytes_next (a ∷ []) = refl
 bytes_next (a ∷ b ∷ more) = next_by a (b ∷ more) (length a.1 == 0) refl (bytes_next (b ∷ more))
-
--- where the first has no bytes and does not say nothing, all is over
-pub end_of : (l : List Arrival) → is_silent l ≡ false → length (first_bytes l) ≡ 0 → less 0 l ≡ []
-end_of [] stands none = refl
-end_of (a ∷ []) stands none = last_of a.0 a.1 none
-  where
-    last_of : (k : ℕ) (bytes : List ℕ) → length bytes ≡ 0 → less 0 ((k, bytes) ∷ []) ≡ []
-    last_of k [] none = refl
-    last_of k (x ∷ xs) none = absurd (omega arith)
-end_of (a ∷ b ∷ more) stands none =
-    let silent : (length a.1 == 0) ≡ true = grind (arith, nat_tests) in absurd (true≢false (sym silent ∙ stands))
-
-pub found_end : (room : ℕ) (bytes : List ℕ) → length bytes ≡ 0 → found room bytes ≡ End
-found_end room [] none = refl
-found_end room (x ∷ xs) none = absurd (omega arith)
-
-pub found_bytes : (room : ℕ) (bytes : List ℕ) → length bytes ≢ 0 → found room bytes ≡ Bytes (min room (length bytes))
-found_bytes room [] some = absurd (some refl)
-found_bytes room (x ∷ xs) some = refl
 
 -- ---- the number of a look
 look_by : (room : ℕ) (l : List Arrival) (b c : Bool) → b ≡ c →

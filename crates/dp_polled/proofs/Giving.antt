@@ -1,6 +1,6 @@
 -- What a post has given, as pieces are taken and given.
-use Rattle.std.proofs.Common.{◌≡◌, ℕ, ◌+◌, ◌-◌, ◌≤◌, min, Bool, true, false, true≢false, ◌||◌, List, [], ◌∷◌, ◌++◌, length, take, drop}
-use Rattle.std.proofs.Common.{Option, None, Some, Result, Ok, Err, IsErr, refl, sym, ap, ◌∙◌, subst, arith}
+use Rattle.std.proofs.Common.{◌≡◌, ℕ, ◌+◌, ◌-◌, ◌≤◌, min, Bool, true, false, true≢false, List, [], ◌∷◌, ◌++◌, length, take, drop}
+use Rattle.std.proofs.Common.{Option, None, Some, Result, Ok, Err, refl, sym, ap, ◌∙◌, subst, arith}
 use Rattle.std.proofs.Common.{append_assoc, append-nil, take-append-drop, length-append}
 use Rattle.std.proofs.lemmas.Bool.Decides.{nat_tests}
 use Rattle.std.proofs.lemmas.List.{drop-drop, drop_all, length-take, take_at}
@@ -9,10 +9,9 @@ use Rattle.dp_polled.proofs.Coming.{take_rest}
 use Rattle.dp_polled.specs.declared.piece.Piece.{Piece}
 use Rattle.dp_polled.specs.declared.piece.Piece.TheVariants as piece
 use Rattle.dp_polled.specs.declared.polled.Look.{Look}
-use Rattle.dp_polled.specs.Polls.{look_is_over}
 use Rattle.dp_polled.specs.Posts.{Known, after_empty, after_take}
-use Rattle.dp_polled.specs.Posted.{State, Answers, Asked, AskedIf, HasOnlyTaken, IsKept, Tried, bytes_in, bytes_of, given}
-use Rattle.dp_polled.specs.Posted.{is_over, is_spent, moved, rest, some_of, with_found}
+use Rattle.dp_polled.specs.Posted.{State, Asked, AskedIf, HasOnlyTaken, IsKept, bytes_in, bytes_of, given}
+use Rattle.dp_polled.specs.Posted.{is_spent, moved, rest, with_found}
 
 bytes_last : (ps : List Piece) (p : Piece) → bytes_of (ps ++ p ∷ []) ≡ bytes_of ps ++ bytes_in p
 bytes_last [] p = append-nil (bytes_in p)
@@ -78,9 +77,6 @@ before_is all before after e =
     ap (λ (l : List ℕ). take (length l - length after) l) e
     ∙ take_at before after (length (before ++ after) - length after)
     (let sum = length-append before after in omega arith)
-
-pub given_is : (v : State) (k : IsKept v.seat.taken v.kept v.at v.faults) → given v ≡ k.before
-given_is v k = before_is (bytes_of v.seat.taken) k.before (rest v.kept v.at) k.whole
 
 -- nothing is left of a piece that is spent
 spent_rest : (kept : Option Piece) (at : ℕ) → is_spent kept at ≡ true → rest kept at ≡ []
@@ -197,47 +193,7 @@ copied_is copied bytes slice buf at n is size least e =
     ∙ ap (λ (l : List ℕ). take n l) (take_rest slice at) ∙ ap (λ (l : List ℕ). take n (drop at l)) is)
 
 -- ---- whether the input is over
-over_of_some : (E : Type 0) (room : ℕ) (bytes : List ℕ) → look_is_over {E = E} (Ok (some_of room bytes)) ≡ false
-over_of_some E room [] = refl
-over_of_some E room (b ∷ bytes) = refl
-
-over_err : {E : Type 0} (result : Result Look E) → IsErr result → look_is_over result ≡ true
-over_err (Ok look) e = absurd (true≢false (sym e))
-over_err (Err failed) e = refl
-
--- it is over exactly where the piece that is kept then says so
-answer_over : {E : Type 0} (room : ℕ) (kept : Option Piece) (at : ℕ) (result : Result Look E) →
-    Answers room kept at result → look_is_over result ≡ is_over kept
-answer_over room None at result e = ap look_is_over e
-answer_over {E} room (Some (piece.Bytes bytes)) at result e =
-    ap look_is_over e ∙ over_of_some E room (drop at bytes)
-answer_over room (Some piece.End) at result e = ap look_is_over e
-answer_over room (Some piece.Failed) at result e = over_err result e
 
 moved_kept : {E : Type 0} (result : Result Look E) (v : State) → (moved result v).kept ≡ v.kept
 moved_kept (Ok look) v = refl
 moved_kept (Err failed) v = refl
-
--- a piece that says so stays
-or_over : (kept : Option Piece) (at : ℕ) (b : Bool) → is_spent kept at ≡ true → b ≡ (is_over kept || b)
-or_over None at b e = refl
-or_over (Some (piece.Bytes bytes)) at b e = refl
-or_over (Some piece.End) at b e = absurd (true≢false (sym e))
-or_over (Some piece.Failed) at b e = absurd (true≢false (sym e))
-
-or_self : (b : Bool) → b ≡ (b || b)
-or_self true = refl
-or_self false = refl
-
-asked_over : (v w : State) (b : Bool) → is_spent v.kept v.at ≡ b → AskedIf b v w →
-    is_over w.kept ≡ (is_over v.kept || is_over w.kept)
-asked_over v w true e a = or_over v.kept v.at (is_over w.kept) e
-asked_over v w false e a =
-    or_self (is_over w.kept) ∙ ap (λ (u : State). is_over u.kept || is_over w.kept) a
-
-pub tried_over : {E : Type 0} (room : ℕ) (v : State) (result : Result Look E) (w : State) → Tried room v result w →
-    is_over w.kept ≡ (is_over v.kept || look_is_over result)
-tried_over room v result w t =
-    ap (λ (u : State). is_over u.kept) t.moves ∙ ap is_over (moved_kept result t.middle)
-    ∙ asked_over v t.middle (is_spent v.kept v.at) refl t.asks
-    ∙ ap (λ (b : Bool). is_over v.kept || b) (sym (answer_over room t.middle.kept t.middle.at result t.answer))

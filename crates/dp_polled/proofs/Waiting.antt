@@ -1,7 +1,7 @@
 -- A wait at a post, try by try.
 use Rattle.std.proofs.Common.{◌≡◌, ℕ, ◌+◌, ◌≤◌, ◌<◌, suc, Bool, true, false, true≢false, ◌&&◌, nat_lt, min}
 use Rattle.std.proofs.Common.{List, [], ◌∷◌, ◌++◌, length, drop, replicate, Option, None, Some, Result, Ok, Err, IsErr, is_err}
-use Rattle.std.proofs.Common.{refl, sym, ap, ◌∙◌, subst, arith, append_assoc, append-nil, add-zero}
+use Rattle.std.proofs.Common.{refl, sym, ap, ◌∙◌, subst, arith, append_assoc, add-zero}
 use Rattle.std.specs.Prelude.{nat_le}
 use Rattle.std.proofs.lemmas.Bool.Decides.{nat_tests}
 use Rattle.std.proofs.lemmas.List.{length-drop, replicate_more}
@@ -12,7 +12,7 @@ use Rattle.dp_polled.specs.declared.polled.Look.TheVariants.{NotYet, Bytes, End}
 use Rattle.dp_polled.specs.Polls.{count_of}
 use Rattle.dp_polled.specs.Posted.{State, Answers, AskedIf, CameIf, CameTo, HasOnlyTaken, Tried, WaitAnswers, Waited}
 use Rattle.dp_polled.specs.Posted.{given, is_over, is_spent, moved, some_of, wait_moved, waits, with_found}
-use Rattle.dp_polled.proofs.Giving.{asked_given, asked_goes, goes_itself, goes_on_and_on}
+use Rattle.dp_polled.proofs.Giving.{asked_given, asked_goes, goes_on_and_on}
 
 -- ---- a wait answers as the look does that found something
 abbrev pub wait_of : {E : Type 0} → Result Look E → Result ℕ E
@@ -106,19 +106,6 @@ pub record IsQuiet (p s : State) : Type 0 where
   pub gives : given s ≡ given p
   pub over : is_over s.kept ≡ is_over p.kept
   pub goes : HasOnlyTaken p.seat s.seat
-
-pub quiet_itself : (p : State) → IsQuiet p p
-quiet_itself p = record {
-  empty = 0;
-  taken = sym (append-nil p.seat.taken);
-  spent = refl;
-  same = λ _. refl;
-  looks = refl;
-  faults = refl;
-  gives = refl;
-  over = refl;
-  goes = goes_itself p.seat;
-}
 
 -- a try that found nothing
 no_bytes : (next : Piece) → is_spent (Some next) 0 ≡ true → next ≡ piece.Bytes []

@@ -32,9 +32,6 @@ use Rattle.dp_program.specs.inner.Steps.{FetchCaused, IsNext, RunFailed, RunWrit
 
 -- ---- what is fetched, one file after another
 
-name_of : Given → List ℕ
-name_of file = file.0
-
 pub fetched_none : (files : Files) → AreFetched files [] []
 fetched_none files = record { named = refl; contents = λ k d below. absurd (omega (arith, below)) }
 
@@ -366,24 +363,6 @@ requested_made fetched (Err why) start after names made all = by why made where
   by why (inr (e, makes, same)) = subst (λ (w : ProgramError). RequestsFiles {A = Bundle} (Err w) start after names)
       (sym same)
       (refused e)
-
--- Whatever comes of it, the names that were asked for are the first of these.
-pub requests_first : {A : Type 0} (result : Result A ProgramError) (start after : RequestedNames)
-    (names : List (List ℕ))
-    → RequestsFiles result start after names
-    → (count : ℕ) × (after ≡ grown start (take count names))
-requests_first result start after names asks = by result asks where
-  whole : after ≡ grown start names → after ≡ grown start (take (length names) names)
-  whole all = all ∙ ap (grown start) (sym (take_all (length names) names (omega arith)))
-
-  by : {A : Type 0} (result : Result A ProgramError) → RequestsFiles result start after names → (count : ℕ)
-      × (after ≡ grown start (take count names))
-  by (Ok a) h = (length names, whole h)
-  by (Err (none.Shelf file)) h = (file + 1, h)
-  by (Err (none.Missing file)) h = (file + 1, h)
-  by (Err (none.TooLong file)) h = (length names, whole h)
-  by (Err (none.Source file why)) h = (length names, whole h)
-  by (Err none.Memory) h = h
 
 -- ---- what a shelf holds
 

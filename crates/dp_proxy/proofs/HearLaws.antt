@@ -7,22 +7,13 @@ use Rattle.dp_wire.specs.Frames.{has_no_nul, up_to_nul, FirstNul}
 use Rattle.dp_wire.proofs.FrameLaws.{no_nul-at}
 use Rattle.dp_lanes.proofs.RestLaws.{up_before}
 use Rattle.dp_proxy.specs.declared.events.Act.TheVariants.{Given}
-use Rattle.dp_proxy.specs.declared.input.Hearing.TheVariants.{More, Asked}
-use Rattle.dp_proxy.specs.Pasts.{Asking}
+use Rattle.dp_proxy.specs.declared.input.Hearing.TheVariants.{Asked}
 use Rattle.dp_proxy.specs.inner.Acts.{Hears}
 
 both_clean : (a b : List ℕ) → has_no_nul a ≡ true → has_no_nul b ≡ true → has_no_nul (a ++ b) ≡ true
 both_clean a b p q = list_all-append _ a b ∙ and_from _ _ p q
 
 module _ (heard bytes now : List ℕ) (clean : has_no_nul heard ≡ true) where
-  pub more_heard : FirstNul bytes None → now ≡ heard ++ bytes → Hears heard (Given bytes) More now
-  more_heard none put =
-      let all = both_clean heard bytes clean none in (
-        ap (λ t. if t then None else Some (up_to_nul (heard ++ bytes))) all,
-        subst (λ l. has_no_nul l ≡ true) (sym put) all,
-        λ host. ap (Asking host) (sym put),
-      )
-
   pub command_heard : (place : ℕ) → FirstNul bytes (Some place) → now ≡ heard ++ take place bytes
       → Hears heard (Given bytes) Asked now
   command_heard place first put =

@@ -1,20 +1,19 @@
 -- What an act of a session is answered, by what its lanes hand out.
 use Rattle.std.proofs.Common.{◌≡◌, ℕ, ◌<◌, ◌==◌, Bool, true, false, if◌then◌else◌, List, [], ◌∷◌, ◌++◌, length, drop, flat_map}
-use Rattle.std.proofs.Common.{Option, Some, None, is_none, refl, sym, ap, subst, ◌∙◌, inl, inr, append-nil, arith}
-use Rattle.std.proofs.lemmas.Bool.{or_left, or_right, or_from, eqb-true, false≢true}
+use Rattle.std.proofs.Common.{Option, Some, None, is_none, refl, sym, ap, subst, ◌∙◌, inr, append-nil, arith}
+use Rattle.std.proofs.lemmas.Bool.{or_right, or_from, eqb-true, false≢true}
 use Rattle.std.proofs.lemmas.List.Concat.{flat_map-append}
 use Rattle.dp_lanes.specs.declared.lane.Lane.{Lane}
 use Rattle.dp_lanes.specs.declared.lane.LaneKind.{LaneKind}
 use Rattle.dp_lanes.specs.declared.lane.LaneKind.TheVariants.{Up, Down}
 use Rattle.dp_lanes.specs.Lanes.{frame, texts_in, is_bad}
-use Rattle.dp_lanes.specs.Places.{IsBadAt, IsBadIn, IsBadPlace, Follows, Carries}
+use Rattle.dp_lanes.specs.Places.{IsBadPlace, Follows, Carries}
 use Rattle.dp_proxy.specs.declared.events.Act.{Act}
-use Rattle.dp_proxy.specs.declared.events.Act.TheVariants.{Given, Moved, Closed}
+use Rattle.dp_proxy.specs.declared.events.Act.TheVariants.{Given, Moved}
 use Rattle.dp_proxy.specs.declared.events.Effect.{Effect}
 use Rattle.dp_proxy.specs.declared.events.Effect.TheVariants.{Nothing, ToEngine, ToIde}
 use Rattle.dp_proxy.specs.declared.passes.Passing.TheVariants as passing
 use Rattle.dp_proxy.specs.Links.{brought, stream, handed, is_broken, effect_of, passed, ends}
-use Rattle.dp_proxy.specs.Places.{BreaksAt}
 use Rattle.dp_proxy.specs.inner.Lanes.{FollowBoth, IsBrokenAt, BrokenPlace}
 use Rattle.dp_proxy.specs.inner.Acts.{Passes}
 
@@ -46,12 +45,6 @@ follow_idle acts act up down no_up no_down f =
     }
 
 -- ---- where a link is broken
-
-pub broken_down : (acts : List Act) (offset : ℕ) → IsBadIn Down (stream Down acts) offset → IsBrokenAt acts offset
-broken_down acts offset bad = record {
-  broken = or_left (is_bad Down (stream Down acts)) (is_bad Up (stream Up acts)) bad.bad;
-  place = inl bad.place;
-}
 
 pub broken_up : (acts : List Act) (place : Option ℕ) → is_bad Down (stream Down acts) ≡ false
     → IsBadPlace Up (stream Up acts) place → BrokenPlace acts place
@@ -143,25 +136,6 @@ module _ (acts : List Act) (bytes : List ℕ) (up down after : Lane) (out : List
   pub moved_broken : out ≡ [] → (offset : ℕ) → IsBrokenAt (acts ++ Moved bytes ∷ []) offset
       → Passes acts (Moved bytes) (passing.Broken offset)
   moved_broken none offset at = effect_broken acts (Moved bytes) Up ToIde out refl refl moved_put none offset at
-
--- ---- the closing
-
-pub closed_whole : (acts : List Act) → is_broken acts ≡ false → Passes acts Closed passing.Closed
-closed_whole acts whole = (ap (effect_of ToIde []) whole, refl)
-
-pub closed_broken : (acts : List Act) (offset : ℕ) → IsBrokenAt acts offset → Passes acts Closed (passing.Broken offset)
-closed_broken acts offset at = (ap (effect_of ToIde []) at.broken, refl, moved at.place) where
-  down : stream Down acts ≡ stream Down (acts ++ Closed ∷ [])
-  down = stream_same Down acts Closed refl
-
-  moved : BreaksAt acts offset → BreaksAt (acts ++ Closed ∷ []) offset
-  moved (inl bad) = inl (subst (λ s. IsBadAt Down s offset) down bad)
-  moved (inr bad) =
-      inr (
-        subst (λ s. is_bad Down s ≡ false) down bad.0,
-        subst (λ s. IsBadAt Up s offset)
-            (stream_same Up acts Closed refl) bad.1,
-      )
 
 -- ---- whether anything is handed out
 

@@ -16,7 +16,6 @@ use Rattle.dp_proxy.specs.declared.kept.Kept.TheVariants as keep
 use Rattle.dp_proxy.specs.declared.kept.Step.{Step}
 use Rattle.dp_proxy.specs.Pasts.{Past, Lead, lead, came, start, past_of}
 use Rattle.dp_proxy.specs.Invariant.{Keeps, kept_at, IsKept, Represents, RepresentsAfter, session_in, IsSound, AreSound}
-use Rattle.dp_proxy.specs.Steps.{Answers, AnswersAt}
 use Rattle.dp_proxy.specs.inner.Acts.{Leads, Moves, LeavesOthers, IsOwn}
 
 -- ---- the events with one more
@@ -33,11 +32,6 @@ module _ (old new : Keeps) (e : Event) (step : Step) (others : (o : ℕ) → (e.
       (leads : Leads old.journal ((past_of events).link e.link) e.act new.journal step) where
     past : Past
     past = past_of events
-
-    pub answers_are : Answers (past_of events) e.link e.act step.answer
-    answers_are =
-        subst (λ (j : List Entry). AnswersAt j ((past_of events).link e.link) e.act step.answer) stands.journal
-        leads.answers
 
     abbrev led : Lead
     led = lead (past_of events).journal ((past_of events).link e.link) e.act

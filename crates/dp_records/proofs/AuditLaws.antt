@@ -1,5 +1,5 @@
 -- A session that follows a record: what one line more does to it, and what it says at the end.
-use Rattle.std.proofs.Common.{◌≡◌, ◌↔◌, ℕ, ◌+◌, ◌<◌, ◌≤◌, ◌==◌, ◌&&◌, Bool, true, IsTrue, List, [], ◌∷◌, ◌++◌, length, Option, None, refl, sym, ap, ◌∙◌, subst, append_assoc, append-nil, arith, length-append}
+use Rattle.std.proofs.Common.{◌≡◌, ◌↔◌, ℕ, ◌+◌, ◌≤◌, ◌==◌, ◌&&◌, Bool, true, IsTrue, List, [], ◌∷◌, ◌++◌, length, Option, refl, sym, ap, ◌∙◌, subst, append_assoc, append-nil, arith, length-append}
 use Rattle.std.proofs.lemmas.Bool.{and_parts, eq-eqb, eqb-true}
 use Rattle.std.specs.List.{flat_map}
 use Rattle.dp_conversation.specs.Folds.{Reply}
@@ -10,19 +10,15 @@ use Rattle.dp_records.specs.declared.balances.Balance.{Balance}
 use Rattle.dp_records.specs.declared.entry.Entry.{Entry}
 use Rattle.dp_records.specs.declared.entry.Stream.TheVariants.{In, Out, Own}
 use Rattle.dp_records.specs.Behaviours.{Behaviour, behaviour_of, status_by}
-use Rattle.dp_records.specs.declared.sessions.Over.{Over}
-use Rattle.dp_records.specs.declared.sessions.Over.TheVariants.{Open}
 use Rattle.dp_records.specs.Records.{AreEntries, IsPiece, given, own, sent}
-use Rattle.dp_records.specs.Verdicts.{Agrees, EndsRight}
+use Rattle.dp_records.specs.Verdicts.{EndsRight}
 use Rattle.dp_records.specs.inner.Audits.{IsAudit, sends}
 use Rattle.dp_records.specs.inner.Balances.{IsBalance, RecordReports, SessionReports}
-use Rattle.dp_records.specs.inner.Turns.{StopsBy}
 use Rattle.dp_records.proofs.RecordLaws.{given_append, given_length, pieces_join}
 use Rattle.dp_records.proofs.TapeLaws.{own_append, sent_append}
 use Rattle.dp_records.proofs.TurnLaws.{Grows}
 use Rattle.dp_state.specs.declared.moments.Outcome.{Outcome}
 use Rattle.dp_wire.specs.Frames.{packet_frame}
-use Rattle.dp_wire.proofs.NextLaws.{none_partial}
 
 -- ---- what was reported
 
@@ -41,24 +37,6 @@ reports_so a b bytes others same p = subst (SessionReports a b) same p
 
 module _ {S E : Type 0} (step : S → List ℕ → Reply S E) (start : S) (init : List ℕ) where
   -- ---- at the start
-
-  pub audit_first : (audit : Audit S E) (before : Balance) (frame : List ℕ) → audit.given ≡ 0
-      → audit.talk.session ≡ start → audit.talk.held.held ≡ [] → audit.over ≡ Open → frame ≡ packet_frame init
-      → IsBalance before [] [] → SessionReports before audit.sent frame → IsBalance audit.own [] []
-      → IsAudit step start init [] audit
-  audit_first audit before frame none session held goes_on is first reported own_first = record {
-    read = [];
-    are = record { each = tt; within = omega arith };
-    all_given = refl;
-    is_given = none;
-    front = (sends step start init [], refl);
-    is_state = session;
-    stops = subst (λ (o : Over E). StopsBy o None audit.talk.held.held []) (sym goes_on)
-        (refl, held, none_partial [] refl (omega arith));
-    sent_balance = subst (λ (l : List ℕ). IsBalance audit.sent l [])
-        (is ∙ sym (append-nil (packet_frame init))) (reported [] [] first);
-    own_balance = own_first;
-  }
 
   module _ (es : List Entry) (old : Audit S E) (h : IsAudit step start init es old) where
     -- ---- a line that gives nothing
@@ -116,14 +94,6 @@ module _ {S E : Type 0} (step : S → List ℕ → Reply S E) (start : S) (init 
           (subst (IsBalance old.own (served step start h.read).program)
           (sym (own_append es (out_entry ∷ []) ∙ append-nil (own es))) h.own_balance)
 
-      pub out_differs : (Begins (sent (es ++ out_entry ∷ [])) (sends step start init h.read) → ⊥)
-          → AreEntries (es ++ out_entry ∷ []) × (Agrees (sends step start init) (es ++ out_entry ∷ []) → ⊥)
-      out_differs never = (
-        are_so out_entry refl piece,
-        λ agrees. never (subst (λ (l : List ℕ). Begins (sent (es ++ out_entry ∷ [])) (sends step start init l))
-            (given_so out_entry refl) agrees),
-      )
-
       abbrev own_entry : Entry
       own_entry = record { stream = Own; bytes = bytes }
 
@@ -150,9 +120,6 @@ module _ {S E : Type 0} (step : S → List ℕ → Reply S E) (start : S) (init 
 
       in_length : length (given (es ++ in_entry ∷ [])) ≡ length h.read + length bytes
       in_length = ap (λ (l : List ℕ). length l) in_given ∙ length-append h.read bytes
-
-      pub in_too_much : byte_limit < old.given + length bytes → byte_limit < length (given (es ++ in_entry ∷ []))
-      in_too_much more = let is = h.is_given in omega (arith, in_length, more, is)
 
       pub in_fits : (new : Audit S E) (frames program : List ℕ) → old.given + length bytes ≤ byte_limit
           → new.given ≡ old.given + length bytes

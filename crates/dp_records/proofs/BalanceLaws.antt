@@ -10,10 +10,6 @@ use Rattle.dp_records.specs.inner.Balances.{AreAlike, AreApart, IsPaid, Weighs}
 pub apart_swap : (one other : List ℕ) → AreApart one other → AreApart other one
 apart_swap one other apart a b same = apart b a (sym same)
 
--- what is apart stays so
-pub apart_more : (one other more : List ℕ) → AreApart one other → AreApart (one ++ more) other
-apart_more one other more apart a b same = apart (more ++ a) b (sym (append_assoc one more a) ∙ same)
-
 -- behind what is common it is the rests that are apart
 apart_behind : (common one other : List ℕ) → AreApart one other → AreApart (common ++ one) (common ++ other)
 apart_behind common one other apart a b same =

@@ -1,5 +1,5 @@
 -- Bytes in hexadecimal: digits with small letters spell bytes exactly where they are how these are spelled.
-use Rattle.std.proofs.Common.{◌≡◌, ℕ, zero, suc, ◌+◌, ◌-◌, ◌*◌, ◌/◌, ◌%◌, ◌<◌, ◌≤◌, ◌==◌, Bool, true, false, ◌&&◌, List, [], ◌∷◌, length, nat_le, Option, Some, None, Result, Ok, Err, refl, sym, ap, ◌∙◌, ◌⊎◌, inl, inr, arith, slice_index}
+use Rattle.std.proofs.Common.{◌≡◌, ℕ, zero, suc, ◌+◌, ◌-◌, ◌*◌, ◌/◌, ◌%◌, ◌<◌, ◌≤◌, ◌==◌, Bool, true, false, ◌&&◌, List, [], ◌∷◌, length, nat_le, Option, Some, None, Result, Ok, Err, refl, sym, ap, ◌∙◌, inl, inr, arith, slice_index}
 use Rattle.std.specs.Prelude.{if◌then◌else◌}
 use Rattle.std.proofs.lemmas.Bool.{and_parts, cases_lt, eqb-true, le-leb, leb-true, or_cases}
 use Rattle.std.proofs.lemmas.Bool.Decides.{nat_tests}
@@ -61,10 +61,6 @@ digit_at v small =
 
 small_at : (v : ℕ) → v < 16 → is_small_digit (slice_index lower_digits v) ≡ true
 small_at v small = below_at (λ d. is_small_digit (slice_index lower_digits d)) 16 v refl small
-
-or_not : (t : Bool) → (t ≡ true) ⊎ (t ≡ false)
-or_not true = inl refl
-or_not false = inr refl
 
 value_small : (c v : ℕ) → hex_digit_value c ≡ Some v → v < 16
 value_small c v h = grind (arith)

@@ -1,8 +1,7 @@
 -- A record that is read line by line: what its next line does, and how the bytes go on behind it.
-use Rattle.std.proofs.Common.{◌≡◌, ◌≢◌, ◌↔◌, ℕ, ◌+◌, ◌*◌, ◌<◌, ◌≤◌, ◌==◌, Bool, true, false, not, IsTrue, List, [], ◌∷◌, ◌++◌, length, take, drop, get_or, codes, decimal, Option, None, Some, refl, sym, ap, ◌∙◌, subst, append_assoc, append-nil, arith, length-append}
+use Rattle.std.proofs.Common.{◌≡◌, ◌≢◌, ◌↔◌, ℕ, ◌+◌, ◌*◌, ◌<◌, ◌≤◌, ◌==◌, Bool, true, not, IsTrue, List, [], ◌∷◌, ◌++◌, length, take, drop, get_or, codes, decimal, Option, None, Some, refl, sym, ap, ◌∙◌, subst, append_assoc, append-nil, arith, length-append}
 use Rattle.std.proofs.lemmas.Bool.{ne_eqb}
 use Rattle.std.proofs.lemmas.Fmt.{length-decimal-le}
-use Rattle.std.proofs.lemmas.List.{take_more}
 use Rattle.std.proofs.lemmas.List.Concat.{flat_map-append}
 use Rattle.std.specs.Io.KnownBytes.{Consumes, IsAtEnd}
 use Rattle.std.specs.List.{flat_map}
@@ -118,22 +117,6 @@ module _ (es : List Entry) where
         let front = longer_front line rest (end_line status) more same (omega (arith, long, end_short status is)) in
         unended line (end_line status) front.0 none (end_ends status is) front.1;
   }
-
--- ---- the first line feed
-
-pub feed_more : (bytes : List ℕ) (at : ℕ) → at < length bytes → has_no_feed (take at bytes) ≡ true
-    → (get_or bytes at 0 == 10) ≡ false → has_no_feed (take (at + 1) bytes) ≡ true
-feed_more bytes at within none other =
-    ap has_no_feed (take_more bytes at 0 within)
-    ∙ no_feed_append (take at bytes) (get_or bytes at 0 ∷ []) none (rw other refl)
-
-pub feed_here : (bytes : List ℕ) (at : ℕ) → at < length bytes → has_no_feed (take at bytes) ≡ true
-    → get_or bytes at 0 ≡ 10 → EndsLine (take (at + 1) bytes)
-feed_here bytes at within none is = record {
-  front = take at bytes;
-  whole = take_more bytes at 0 within ∙ ap (λ b. take at bytes ++ b ∷ []) is;
-  no_feed = none;
-}
 
 -- ---- pieces
 
@@ -258,18 +241,6 @@ module _ {S E : Type 0} (step : S → List ℕ → Reply S E) (start : S) (init 
       come = line_is_so (line_of e) is;
       are = never.0;
       differs = never.1;
-    }
-
-    pub halts_end : (status : ℕ) (more : Bool) → old.line.items ≡ end_line status → is_status status ≡ true
-        → IsTrue more ↔ (behind ≢ []) → new.audit ≡ old.audit
-        → HaltsBy step start init (halt.Ends status more) (bytes ++ behind) new
-    halts_end status more is ok is_more audit = record {
-      entries = h.entries;
-      rest = behind;
-      come = line_is_so (end_line status) is;
-      is_status = ok;
-      is_more = is_more;
-      audit = subst (IsAudit step start init h.entries) (sym audit) h.audit;
     }
 
   -- an audit agrees

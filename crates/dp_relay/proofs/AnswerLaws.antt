@@ -1,43 +1,21 @@
 -- What the registry was asked for a command, and what is replied.
-use Rattle.std.proofs.Common.{◌≡◌, ℕ, List, Option, Some, None, Result, Ok, Err, IfOk, refl, sym, ap, subst, ◌∙◌, inl, inr}
+use Rattle.std.proofs.Common.{◌≡◌, ℕ, List, Some, None, Result, Ok, Err, IfOk, refl, sym, ap, subst, ◌∙◌, inl, inr}
 use Rattle.std.specs.Prelude.{⊤}
-use Rattle.std.proofs.lemmas.Bool.{cond_both}
 use Rattle.dp_packet.specs.declared.packet.Packet.TheVariants as packet
 use Rattle.dp_packet.specs.declared.packet.ProxyReply.{ProxyReply}
 use Rattle.dp_packet.specs.Text.{text}
 use Rattle.dp_outside.specs.Names.{IsHost}
-use Rattle.dp_registry.specs.declared.entry.Entry.{Entry}
 use Rattle.dp_registry.specs.declared.refusal.Refusal.{Refusal}
-use Rattle.dp_registry.specs.declared.refusal.Refusal.TheVariants.{Taken, NotYours, Memory}
-use Rattle.dp_registry.specs.Journal.{Holder, holder}
-use Rattle.dp_registry.specs.Verdicts.{is_full, full, registering, stopping, reply_of}
+use Rattle.dp_registry.specs.Verdicts.{reply_of}
 use Rattle.dp_desk.specs.Desks.{Known, Called, Entered}
 use Rattle.dp_wire.specs.Frames.{IsPacketText}
 use Rattle.dp_proxy.specs.declared.calls.Call.{Call}
-use Rattle.dp_proxy.specs.declared.calls.Call.TheVariants.{Register, Stop}
 use Rattle.dp_proxy.specs.Calls.{call_of}
 use Rattle.dp_proxy.specs.Replies.{IsAnswerable, verdict_on, verdict_of, entry_of, reply_for}
 use Rattle.dp_proxy.proofs.ReplyLaws.{reply_fits}
-use Rattle.dp_relay.specs.Registrations.{Answered, Noted, Unnoted, Unanswered}
+use Rattle.dp_relay.specs.Registrations.{Answered, Noted}
 
 -- ---- verdicts
-
-registering_answers : (h : Option Holder) (host : List ℕ) (port : ℕ) → IsAnswerable (registering h host port)
-registering_answers None host port = tt
-registering_answers (Some h) host port =
-    cond_both _ (Ok tt) (Err (Taken h.host h.port)) IsAnswerable (λ e. tt) (λ e. tt)
-
-stopping_answers : (h : Option Holder) (host : List ℕ) → IsAnswerable (stopping h host)
-stopping_answers None host = tt
-stopping_answers (Some h) host = cond_both _ (Ok tt) (Err NotYours) IsAnswerable (λ e. tt) (λ e. tt)
-
-verdict_answers : (at : List Entry) (host : List ℕ) (call : Call) → IsAnswerable (verdict_on at host call)
-verdict_answers at host (Register port key multiple) =
-    cond_both (is_full at) (Err (full at)) (registering (holder at key) host port) IsAnswerable (λ e. tt)
-    (λ e. registering_answers (holder at key) host port)
-verdict_answers at host (Stop key) =
-    cond_both (is_full at) (Err (full at)) (stopping (holder at key) host) IsAnswerable (λ e. tt)
-    (λ e. stopping_answers (holder at key) host)
 
 -- ---- commands
 
@@ -67,12 +45,6 @@ each_names_none v host command e (Err why) replied = tt
 module _ (v w : Known) (host command : List ℕ) (call : Call) (named : Some call ≡ call_of command)
     (verdict : Result ⊤ Refusal)
     (called : Called v w (λ at. verdict_on at host call) (entry_of host call) reply_of verdict) where
-  pub is_answerable : (verdict ≡ Err Memory → ⊥) → IsAnswerable verdict
-  is_answerable kept = elim called.answer [
-    | inl out ↦ absurd (kept out)
-    | inr same ↦ subst IsAnswerable (sym same) (verdict_answers called.at host call)
-  ]
-
   noted : verdict ≡ verdict_on called.at host call → Noted v called.at host (call_of command) w
   noted same =
       subst (λ c. Noted v called.at host c w) named
@@ -88,20 +60,4 @@ module _ (v w : Known) (host command : List ℕ) (call : Call) (named : Some cal
           ∙ ap (λ c. reply_for host command (verdict_of called.at host c)) named;
       noted = noted same;
     }
-  ]
-
-  -- memory ran out in the call
-  pub out_of_memory : verdict ≡ Err Memory → Unanswered v w host command
-  out_of_memory out =
-      inr (
-        called.at,
-        inl (subst (λ c. Unnoted v called.at host c w) named
-            (subst (λ r. Entered v called.at (entry_of host call) (reply_of r) w) out called.entered)),
-      )
-
-  -- memory ran out behind the call
-  pub unreplied : IsAnswerable verdict → Unanswered v w host command
-  unreplied can = elim called.answer [
-    | inl out ↦ absurd (subst IsAnswerable out can)
-    | inr same ↦ inr (called.at, inr (noted same))
   ]

@@ -1,7 +1,6 @@
 -- What sources gave and sinks took, one after another.
-use Rattle.std.proofs.Common.{ℕ, List, [], ◌++◌, refl, None, Some, sym, ◌∙◌, append-nil}
+use Rattle.std.proofs.Common.{ℕ, List, [], ◌++◌, refl, None, Some}
 use Rattle.std.specs.declared.option.Option.{Option}
-use Rattle.std.specs.Io.KnownBytes.{Appends, Consumes, Keeps}
 use Rattle.std.proofs.KnownBytes.{Appends-trans, Appends-nil, Consumes-trans, Consumes-nil}
 use Rattle.dp_outside.specs.Reports.{StaysSilent}
 use Rattle.dp_relay.specs.Ends.{Gives, Takes}
@@ -14,16 +13,6 @@ pub silent_on : {A : Type 0} (a b c : Option A) → StaysSilent a b → StaysSil
 silent_on None None c p q = q
 silent_on None (Some told) c p q = absurd cc
 silent_on (Some told) b c p q = tt
-
-pub appends_kept : (a b : Option (List ℕ)) → Keeps a b → Appends a b []
-appends_kept None b k = tt
-appends_kept (Some l) None k = absurd k
-appends_kept (Some l) (Some m) k = k ∙ sym (append-nil l)
-
-pub consumes_kept : (a b : Option (List ℕ)) → Keeps a b → Consumes a b []
-consumes_kept None b k = tt
-consumes_kept (Some l) None k = absurd k
-consumes_kept (Some l) (Some m) k = sym k
 
 pub gives_none : (ahead before : Option (List ℕ)) → Gives ahead ahead before before []
 gives_none ahead before = record {

@@ -132,10 +132,6 @@ untrailed close text n end =
 
 module _ {A : Type 0} (item : List A → Rule A) (close : Terminal) (t : Token)
     (closes : same_terminal (terminal_of t.kind) close ≡ true) where
-  -- none, by the end alone
-  pub no_items_of : NoItems item close (t ∷ []) []
-  no_items_of = give (Mark close) (λ _. []) (t ∷ []) t.line (mark_of close t closes)
-
   -- one item and the end
   module _ (text : List Token) (a : A) (h : item [] text a) where
     one_item : (end : Rule ℕ) → end (t ∷ []) t.line → ItemsUpTo item end (text ++ t ∷ []) (a ∷ [])
@@ -150,12 +146,6 @@ module _ {A : Type 0} (item : List A → Rule A) (close : Terminal) (t : Token)
           other = record
               { count = 0; chain = give end (λ _. a ∷ []) (t ∷ []) t.line e };
         }
-
-    pub plain_items_of : PlainItems item close (text ++ t ∷ []) (a ∷ [])
-    plain_items_of = one_item (Mark close) (mark_of close t closes)
-
-    pub some_items_of : SomeItems item close (text ++ t ∷ []) (a ∷ [])
-    some_items_of = one_item (Trailed close) (untrailed close (t ∷ []) t.line (mark_of close t closes))
 
 -- a list begins with an item
 pub items_start : {L A : Type 0} (item : List A → Rules L A) (end : Rules L ℕ) (test : Terminal → Bool)
@@ -512,22 +502,10 @@ module _ {L A : Type 0} (Above : L → L → Type 0) (same_level : (l : L) → A
   any_items_answers ts =
       any_answers (SomeItemsAt item close) some_items_starts (some_items read close) some_items_answers ts
 
-  pub any_plain_items_starts : StartsIn (AnyPlainItemsAt item close) (λ s. is close s || test s)
-  any_plain_items_starts = any_starts (PlainItemsAt item close) plain_items_starts
-
-  pub any_items_starts : StartsIn (AnyItemsAt item close) (λ s. is close s || test s)
-  any_items_starts = any_starts (SomeItemsAt item close) some_items_starts
-
   -- ---- each list spells something
-
-  pub plain_items_can : Can Above level (PlainItemsAt item close)
-  plain_items_can = up_to_can (MarkAt close) close_starts some_close
 
   pub some_items_can : Can Above level (SomeItemsAt item close)
   some_items_can = up_to_can (λ _. Trailed close) trailed_starts some_trailed
-
-  pub any_plain_items_can : Can Above level (AnyPlainItemsAt item close)
-  any_plain_items_can m above = let c = no_can m above in (c.0, c.1, inl c.2)
 
   pub any_items_can : Can Above level (AnyItemsAt item close)
   any_items_can m above = let c = no_can m above in (c.0, c.1, inl c.2)

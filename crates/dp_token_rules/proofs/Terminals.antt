@@ -4,7 +4,7 @@ use denote.Enum.Enum.{Sum, tag}
 use denote.Enum.Declared.{tag_of, variants}
 use Rattle.std.specs.List.{list_all}
 use Rattle.std.specs.Str.{str_eq_ignore_ascii_case}
-use Rattle.std.proofs.Common.{◌≡◌, inl, inr, ℕ, zero, suc, ◌+◌, ◌<◌, Bool, true, false, not, ◌||◌, List, [], ◌∷◌, ◌++◌, map, length, codes, get_or, Some, None, sym, refl, ap, ◌∙◌, cond, eqb-true, eq-eqb, arith}
+use Rattle.std.proofs.Common.{◌≡◌, inl, inr, ℕ, zero, suc, ◌+◌, ◌<◌, Bool, true, false, not, ◌||◌, List, [], ◌∷◌, ◌++◌, map, length, codes, get_or, Some, None, sym, refl, ap, ◌∙◌, cond, eqb-true, arith}
 use Rattle.std.proofs.lemmas.List.{get_or-map, get_or-append-add}
 use Rattle.std.proofs.lemmas.List.FromFn.{get_or-range_with_len}
 use Rattle.dp_lexer.specs.declared.token.Token.{Token}
@@ -33,16 +33,6 @@ flip s t apart x passes = go (s x) refl
     go : (v : Bool) → s x ≡ v → s x ≡ false
     go true is = let u : t x ≡ false = apart x is in absurd (cc)
     go false is = is
-
--- what each of two tests rules out, both do
-pub apart_or : (s t u : Terminal → Bool) → ((x : Terminal) → s x ≡ true → u x ≡ false)
-    → ((x : Terminal) → t x ≡ true → u x ≡ false) → (x : Terminal) → (s x || t x) ≡ true → u x ≡ false
-apart_or s t u one other x is = elim (or_cases (s x) (t x) is) [ inl h ↦ one x h | inr h ↦ other x h ]
-
--- two tests that pass only what a third passes
-pub within_or : (s t u : Terminal → Bool) → ((x : Terminal) → s x ≡ true → u x ≡ true)
-    → ((x : Terminal) → t x ≡ true → u x ≡ true) → (x : Terminal) → (s x || t x) ≡ true → u x ≡ true
-within_or s t u one other x is = elim (or_cases (s x) (t x) is) [ inl h ↦ one x h | inr h ↦ other x h ]
 
 -- ---- sorts, by their numbers
 
@@ -121,9 +111,6 @@ same_number s c e = eqb-true (number_of s) (number_of c) e
 pub same_is : (s c : Terminal) → same_terminal s c ≡ true → s ≡ c
 same_is s c e = sym (at_number s) ∙ ap terminal_at (same_number s c e) ∙ at_number c
 
-pub same_self : (s : Terminal) → same_terminal s s ≡ true
-same_self s = eq-eqb (number_of s) (number_of s) refl
-
 -- a token of a sort passes what the sort passes
 pub mark_same : (t : Terminal → Bool) (c s : Terminal) → is c s ≡ true → t s ≡ t c
 mark_same t c s e = ap t (same_is s c e)
@@ -137,10 +124,6 @@ mark_fails t c fails s e = mark_same t c s e ∙ fails
 -- what passes a test that the sort does not pass is not of the sort
 pub mark_apart : (t : Terminal → Bool) (c : Terminal) → t c ≡ false → (s : Terminal) → t s ≡ true → is c s ≡ false
 mark_apart t c fails = flip (is c) t (mark_fails t c fails)
-
--- what is of one sort is of no other
-pub other_sort : (c d s : Terminal) → same_terminal c d ≡ false → same_terminal s c ≡ true → same_terminal s d ≡ false
-other_sort c d s apart e = mark_fails (λ x. same_terminal x d) c apart s e
 
 -- ---- tests of sorts, decided by trying each sort
 

@@ -105,9 +105,6 @@ index_one_more fs es f is = record {
         ∙ ap (λ o. first_else o (if bytes_eq name low then Some (length fs) else None)) (is.finds name)
         ∙ ap (λ b. first_else (first_of fs name) (if b then Some (length fs) else None)) d
 
-pub index_of_none : IsIndex [] []
-index_of_none = record { finds = λ name. refl }
-
 -- the same for the function at a position
 pub index_at : (fs : List Function) (i : ℕ) (f : Function) (es : List (List ℕ × ℕ)) (low : List ℕ)
     → i < length fs → f ≡ get_or fs i f → low ≡ str_to_ascii_lowercase f.name → IsIndex (take i fs) es

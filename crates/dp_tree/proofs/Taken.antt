@@ -49,13 +49,6 @@ cut_behind {A = A} (z ∷ xs) x (b ∷ before) y after e = go (cut_behind xs x b
     go (inl h) = inl (ap (λ l. b ∷ l) h.0 ∙ ap (λ c. c ∷ xs) (sym head_same), h.1)
     go (inr h) = inr (h.0, ap (λ l. z ∷ l) h.1 ∙ ap (λ c. c ∷ (before ++ y ∷ h.0)) head_same)
 
-pub no_double_yet : HasNoDouble []
-no_double_yet = record { free = λ before f after e. absurd (go before f after e) }
-  where
-    go : (before : List Function) (f : Function) (after : List Function) → [] ≡ before ++ f ∷ after → ⊥
-    go [] f after e = cc
-    go (b ∷ before) f after e = cc
-
 pub no_double_behind : (fs : List Function) (f : Function) → HasNoDouble fs → is_taken fs f.name ≡ false
     → HasNoDouble (fs ++ f ∷ [])
 no_double_behind fs f none free = record { free = λ before g after e. go before g (cut_behind fs f before g after e) }

@@ -1,5 +1,5 @@
 -- The keys of arrays that are shown are distinct.
-use Rattle.std.proofs.Common.{◌≡◌, ◌≢◌, ℕ, zero, suc, ◌+◌, ◌-◌, ◌*◌, ◌<◌, ◌≤◌, min, Bool, true, false, List, [], length, Option, Some, None, nat_lt, slice_get, OnOk, below_more, refl, sym, subst, ◌∙◌, arith}
+use Rattle.std.proofs.Common.{◌≡◌, ◌≢◌, ℕ, zero, suc, ◌+◌, ◌-◌, ◌*◌, ◌<◌, ◌≤◌, min, Bool, true, false, List, [], length, Some, None, nat_lt, slice_get, OnOk, below_more, refl, sym, subst, arith}
 use Rattle.std.specs.Prelude.{Result, Ok, Err}
 use Rattle.std.specs.List.{IsDistinct}
 use Rattle.std.proofs.lemmas.Bool.{ltb-false, ltb-true}
@@ -38,10 +38,6 @@ on_page size page (suc levels) pairs start end some s e all = λ k entry low hig
     let less : suc levels - 1 ≡ levels = omega arith in
     subst (λ n. IsKeyed size 0 n entry.1) less (all k entry (omega arith) (omega arith) there)
 
-pub none_keyed : (size page levels : ℕ) (pairs : List (Key × Data)) → levels ≡ 0 → AreKeyed size page levels pairs
-none_keyed size page zero pairs e = tt
-none_keyed size page (suc levels) pairs e = absurd (omega arith)
-
 distinct_none : IsDistinct key_eq []
 unfolding IsDistinct
 distinct_none = tt
@@ -62,14 +58,6 @@ array_keyed size page zero t is all = tt
 array_keyed size page (suc levels) t is all =
     subst (λ (pairs : List (Key × Data)). IsDistinct key_eq (keys_of pairs)
     × HoldsOn (IsKeyed size 0 levels) pairs page size) (sym (pairs_of-entries_of t.pairs)) (is.distinct, all)
-
--- the entry at a place
-pub here_only : (P : Data → Type 0) (pairs : List (Key × Data)) (at : ℕ) (found : Option (Key × Data))
-    → slice_get pairs at ≡ found → ((e : Key × Data) → found ≡ Some e → P e.1)
-    → HoldsWithin P pairs at (at + 1)
-here_only P pairs at found is here = λ k e low high there.
-    let same : k ≡ at = omega arith in
-    here e (sym is ∙ subst (λ n. slice_get pairs n ≡ Some e) same there)
 
 pub on_ok : {A E : Type 0} (P Q : Type 0) → (P → Q) → (r : Result A E) → OnOk r P → OnOk r Q
 on_ok P Q more (Ok x) p = more p

@@ -152,7 +152,3 @@ ended left at text past = ap (lines_length left) (drop_all at text past) ∙ not
   nothing : (n : ℕ) → lines_length n [] ≡ 0
   nothing zero = refl
   nothing (suc n) = refl
-
-pub used_up : (left at : ℕ) (text : List ℕ) → left ≤ 0 → lines_length left (drop at text) ≡ 0
-used_up zero at text none = refl
-used_up (suc k) at text none = absurd (omega arith)

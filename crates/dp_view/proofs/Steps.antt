@@ -1,9 +1,8 @@
 -- Lists that are made step by step: what stands at a position, and what is left.
-use Rattle.std.proofs.Common.{◌≡◌, ℕ, zero, suc, ◌+◌, ◌-◌, ◌*◌, ◌<◌, ◌≤◌, min, List, [], ◌∷◌, ◌++◌, length, map, take, drop, reverse, Option, Some, None, slice_get, refl, sym, ap, ◌∙◌, append_assoc, arith}
+use Rattle.std.proofs.Common.{◌≡◌, ℕ, zero, suc, ◌+◌, ◌*◌, ◌<◌, ◌≤◌, min, List, [], ◌∷◌, ◌++◌, length, map, take, drop, Option, Some, slice_get, refl, sym, ap, ◌∙◌, append_assoc, arith}
 use Rattle.std.specs.List.{flat_map}
 use Rattle.std.specs.Option.{option_map_or}
-use Rattle.std.proofs.lemmas.List.{append-nil, drop_all, length-take, length-reverse, get_or-reverse, take_min, drop_min, drop-take}
-use Rattle.std.proofs.lemmas.Option.{slice_get_past, slice_get-get_or}
+use Rattle.std.proofs.lemmas.List.{append-nil, drop_all, length-take, take_min, drop_min, drop-take}
 use Rattle.dp_tree.specs.declared.bundle.Bundle.{Bundle}
 use Rattle.dp_packet.specs.declared.packet.StackLine.{StackLine}
 use Rattle.dp_state.specs.declared.state.Frame.{Frame}
@@ -103,15 +102,3 @@ level_step bundle frames made next all level so_far added =
     let rest : List StackLine = lines_from bundle (level + 1) (drop (level + 1) frames) in
     ap (λ (l : List StackLine). l ++ rest) added ∙ append_assoc made here rest
     ∙ ap (λ (l : List StackLine). made ++ l) (sym (lines_step bundle frames level level)) ∙ so_far
-
-pub slice_get-reverse : {A : Type 0} (xs : List A) (k : ℕ) → k < length xs
-    → slice_get xs (length xs - 1 - k) ≡ slice_get (reverse xs) k
-slice_get-reverse [] k within = absurd (omega arith)
-slice_get-reverse (x ∷ xs) k within =
-    let all = x ∷ xs in
-    slice_get-get_or all (length all - 1 - k) x (omega arith)
-    ∙ ap (λ v. Some v) (sym (get_or-reverse all k x within))
-    ∙ sym (slice_get-get_or (reverse all) k x (omega (arith, length-reverse all)))
-
-pub past_reverse : {A : Type 0} (xs : List A) (k : ℕ) → length xs ≤ k → None ≡ slice_get (reverse xs) k
-past_reverse xs k past = sym (slice_get_past (reverse xs) k (omega (arith, length-reverse xs)))

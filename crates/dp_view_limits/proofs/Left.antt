@@ -1,9 +1,8 @@
 -- What is left of a count: whether it suffices, and behind parts, one at a time.
-use Rattle.std.proofs.Common.{◌≡◌, ◌≢◌, ℕ, zero, suc, ◌+◌, ◌-◌, ◌*◌, ◌<◌, ◌≤◌, min, List, [], ◌∷◌, length, take, drop, Option, slice_get, nat_le, nat_lt, refl, sym, ap, ◌∙◌, arith}
+use Rattle.std.proofs.Common.{◌≡◌, ◌≢◌, ℕ, zero, suc, ◌+◌, ◌-◌, ◌*◌, ◌<◌, min, List, [], ◌∷◌, length, take, drop, Option, slice_get, nat_le, nat_lt, refl, sym, ap, ◌∙◌, arith}
 use Rattle.std.specs.Prelude.{sum_by}
 use Rattle.std.specs.Option.{option_map_or}
 use Rattle.std.proofs.lemmas.Bool.Decides.{nat_tests}
-use Rattle.std.proofs.lemmas.List.{drop_all, length-take}
 use Rattle.std.proofs.lemmas.List.Sums.{sum_by-cons}
 use Rattle.dp_value.specs.declared.key.Key.{Key}
 use Rattle.dp_value.specs.declared.value.Value.TheVariants.{Array}
@@ -47,13 +46,6 @@ front_step {A} f xs at end below =
     sum_step f (take end xs) at
     ∙ ap (λ (o : Option A). option_map_or f o 0 + sum_by f (drop (at + 1) (take end xs)))
     (slice_get_front xs at end below)
-
-pub front_end : {A : Type 0} (f : A → ℕ) (xs : List A) (at end : ℕ) → end ≤ at → sum_by f (drop at (take end xs)) ≡ 0
-front_end {A} f xs at end past =
-    ap (λ (l : List A). sum_by f l) (drop_all at (take end xs) (omega (arith, length-take end xs)))
-
-pub whole_end : {A : Type 0} (f : A → ℕ) (xs : List A) (at : ℕ) → length xs ≤ at → sum_by f (drop at xs) ≡ 0
-whole_end {A} f xs at past = ap (λ (l : List A). sum_by f l) (drop_all at xs past)
 
 -- ---- arrays
 

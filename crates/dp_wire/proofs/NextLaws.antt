@@ -2,7 +2,6 @@
 use Rattle.std.proofs.Common.{◌≡◌, ◌≢◌, ℕ, ◌+◌, ◌<◌, ◌≤◌, true, List, [], ◌∷◌, ◌++◌, Some, length, take, drop, refl, sym, ap, ◌∙◌, subst, append_assoc, append-nil, arith, length-append, length-take}
 use Rattle.std.proofs.lemmas.Bool.{and_from}
 use Rattle.std.proofs.lemmas.List.Folds.{list_all-append}
-use Rattle.std.proofs.lemmas.List.{take-append-le, drop-append-le}
 use Rattle.std.proofs.Math.Seq.{drop-append-add, take-append-add}
 use Rattle.dp_wire.specs.Frames.{has_no_nul, IsCommand, command_frame, command_limit, commands_in, BeginsCommand, IsPartialCommand, BeginsNoCommand}
 use Rattle.dp_wire.specs.Frames.{FirstNul}
@@ -104,22 +103,6 @@ long_never now l more =
     ∙ commands-long l.front (l.back ++ more) l.no_nul l.long
 
 -- ---- once a piece follows
-
-pub first_stays : (held piece : List ℕ) (n : ℕ) → FirstNul held (Some n) → FirstNul (held ++ piece) (Some n)
-first_stays held piece n found =
-    let long = front_length held n found in
-    let within : n + 1 ≤ length held = omega (
-      arith,
-      ap length found.1,
-      long,
-      length-append (take n held) (0 ∷ drop (n + 1) held),
-    ) in
-    let front : take n (held ++ piece) ≡ take n held = take-append-le n held piece (omega (arith, within)) in
-    let back : drop (n + 1) (held ++ piece) ≡ drop (n + 1) held ++ piece = drop-append-le (n + 1) held piece within in (
-      subst (λ l. has_no_nul l ≡ true) (sym front) found.0,
-      ap (λ l. l ++ piece) found.1 ∙ append_assoc (take n held) (0 ∷ drop (n + 1) held) piece
-          ∙ (λ i. sym front i ++ 0 ∷ sym back i),
-    )
 
 pub none_comes : (held piece : List ℕ) → has_no_nul held ≡ true → has_no_nul piece ≡ true
     → has_no_nul (held ++ piece) ≡ true

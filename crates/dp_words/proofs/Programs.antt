@@ -37,11 +37,6 @@ end_fault w =
     (or_else (defaults_fault (settled [] w.held).rows [])
     (check_fault above (finished [] w.held) (is_some (entered (built program) w.stopped)))))
 
-pub all_faults : (words : List Text)
-    → fault_of program words ≡ or_else (walk_fault above names (begun None) words)
-    (end_fault (walk [] names nothing_held words))
-all_faults words = refl
-
 -- a command of this name, with this shape
 pub record Known (name : Text) (s : Shape) : Type 0 where
   pub met_so : walked [] names (begun None) name ≡ stopped_at name []

@@ -105,9 +105,6 @@ module _ (acts : List Act) (act : Act) where
 
 -- ---- an engine
 
-front_stays : (n : ℕ) (sent rest : List ℕ) → n ≤ length sent → take n (sent ++ rest) ≡ take n sent
-front_stays n sent rest small = take-append-le n sent rest small
-
 module _ {S E : Type 0} (engines : Engines S E) (key : List ℕ) (acts : List Act) (engine : Engine S E)
     (stands : IsEngineAfter engines key acts engine) where
   -- ---- what is read
@@ -178,15 +175,6 @@ module _ {S E : Type 0} (engines : Engines S E) (key : List ℕ) (acts : List Ac
           all_more : engine.read ≡ length (stream Up acts)
               → engine.read + length piece ≡ length (stream Up acts) + length piece
           all_more e = ap (λ (n : ℕ). n + length piece) e
-
-  -- nothing is read for an act that brings nothing of the engine
-  pub idle_with : (act : Act) → brought Up act ≡ [] → IsReadFor acts engine → IsReadWith acts act engine
-  idle_with act none all =
-      let stays = sym (stream_stays Up acts act none) in
-      record {
-        all = all ∙ ap length stays;
-        up = subst (λ s. s ≡ take (length s) engine.sent.items) stays stands.up;
-      }
 
   -- ---- after the act
 

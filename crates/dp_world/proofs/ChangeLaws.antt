@@ -9,7 +9,7 @@ use Rattle.dp_proxy.specs.declared.events.Act.{Act}
 use Rattle.dp_proxy.specs.declared.events.Act.TheVariants.{Ide, Engine as Comes, Given, Moved, Closed}
 use Rattle.dp_proxy.specs.declared.events.Effect.{Effect}
 use Rattle.dp_proxy.specs.declared.events.Effect.TheVariants.{Nothing, Reply, Admitted, Turned, ToEngine, ToIde}
-use Rattle.dp_proxy.specs.Links.{brought, handed, is_broken, effect_of, passed, ends}
+use Rattle.dp_proxy.specs.Links.{handed, is_broken, effect_of, passed, ends}
 use Rattle.dp_proxy.specs.Pasts.{Link, New, Asking, Settled, Joined, Ended, Refused, Lead, lead, without_effect, question, listening, opened}
 use Rattle.dp_proxy.specs.Replies.{reply_frame}
 use Rattle.dp_proxy.specs.Invariant.{IsOver}
@@ -339,20 +339,6 @@ module _ {S E : Type 0} (engines : Engines S E) (journal : List Entry) (act : Ac
       → (led link).effect ≡ None → IsShownAt engines (led link).link kept
   kept_broken None link new none = absurd (some_effect (subst (λ (l : Link). (led l).effect ≡ None) new none))
   kept_broken (Some kept) link ready none = shown_broken kept link ready none
-
-  -- an act that was read nothing for
-  pub idle_ready : (kept : Option (Shown S E)) (link : Link) → brought Up act ≡ [] → IsShownAt engines link kept
-      → IsReadyAt engines link act kept
-  idle_ready None link idle h = h
-  idle_ready (Some (Registration host reply)) link idle h = h
-  idle_ready (Some (Turned_away key why)) link idle h = h
-  idle_ready (Some (Session name host port engine)) (Joined key pass acts) idle h =
-      (h.0, h.1, act_law.idle_with engines key acts engine h.1 act idle h.2)
-  idle_ready (Some (Session name host port engine)) (Ended key pass acts) idle h = h
-  idle_ready (Some (Session name host port engine)) New idle h = h
-  idle_ready (Some (Session name host port engine)) (Asking other heard) idle h = h
-  idle_ready (Some (Session name host port engine)) (Settled other answer) idle h = h
-  idle_ready (Some (Session name host port engine)) (Refused key why) idle h = h
 
   pub none_ready : (kept : Option (Shown S E)) → IsReadyAt engines New act kept → kept ≡ None
   none_ready None h = refl

@@ -15,7 +15,6 @@ use Rattle.dp_proxy.specs.Pasts.{Link, New, Asking, Settled, Joined, Ended as Ov
 use Rattle.dp_world.specs.declared.engine.Ended.{Ended}
 use Rattle.dp_world.specs.declared.engine.Engine.{Engine}
 use Rattle.dp_world.specs.declared.shown.Shown.{Shown}
-use Rattle.dp_world.specs.declared.shown.Shown.TheVariants as show
 use Rattle.dp_world.specs.declared.numbers.Tally.{Tally}
 use Rattle.dp_world.specs.Tallies.{nothing, one_served, plus, tally_on, tally_in, kept, in_words}
 use Rattle.dp_world.specs.inner.EngineStates.{IsEngineAfter}
@@ -62,16 +61,6 @@ module _ {S E : Type 0} (engines : Engines S E) (key host : List ℕ) (port : �
   counts_session (Refused to why) h = absurd h
   counts_session (Joined to pass acts) h = counted_is to pass acts h.1
   counts_session (Over to pass acts) h = counted_is to pass acts h.1
-
-pub counts_registration : {S E : Type 0} (engines : Engines S E) (of : Link) (host reply : List ℕ)
-    → IsShown engines of (show.Registration host reply)
-    → nothing ≡ tally_on engines of
-counts_registration engines New host reply h = absurd h
-counts_registration engines (Asking name heard) host reply h = refl
-counts_registration engines (Settled name answer) host reply h = refl
-counts_registration engines (Refused to why) host reply h = absurd h
-counts_registration engines (Joined to pass acts) host reply h = absurd h
-counts_registration engines (Over to pass acts) host reply h = absurd h
 
 -- ---- sums in 64 bits
 

@@ -14,20 +14,19 @@ use Rattle.dp_events.specs.declared.event.Act.TheVariants.{Ide, Engine, Give, Mo
 use Rattle.dp_events.specs.declared.event.Event.{Event}
 use Rattle.dp_events.specs.Lists.{Fits, MayFollow, AllFit, makes, was}
 use Rattle.dp_proxy.specs.declared.errors.ProxyError.{ProxyError}
-use Rattle.dp_proxy.specs.declared.errors.ProxyError.TheVariants.{BadInit, BadFrame}
+use Rattle.dp_proxy.specs.declared.errors.ProxyError.TheVariants.{BadFrame}
 use Rattle.dp_proxy.specs.declared.events.Act.{Act as ProxyAct}
 use Rattle.dp_proxy.specs.declared.events.Effect.{Effect}
 use Rattle.dp_proxy.specs.declared.events.Event.{Event as ProxyEvent}
-use Rattle.dp_proxy.specs.Pasts.{Link, New, Joined, Ended, Asking, Settled, Refused, Past, Lead, lead, came, start}
+use Rattle.dp_proxy.specs.Pasts.{Link, New, Past, Lead, lead, came, start}
 use Rattle.dp_proxy.specs.Pasts as core
 use Rattle.dp_proxy.specs.Invariant.{Keeps, Represents, RepresentsAfter}
 use Rattle.dp_proxy.specs.Steps.{Answers}
 use Rattle.dp_world.specs.Alone.{Engines}
 use Rattle.dp_world.specs.declared.shown.Shown.{Shown}
-use Rattle.dp_world.specs.declared.shown.Shown.TheVariants.{Registration, Refused as Turned_away, Session}
 use Rattle.dp_world.specs.Engines.{act_of, followed, past_of}
-use Rattle.dp_world.specs.inner.KeptLinks.{IsShown, IsShownAt, IsReadyAt, Passes, LeadsAs, KeepsOthers, kept_at, made, AreShown, IsWorldAfter}
-use Rattle.dp_world.specs.inner.Changes.{IsReadable, IsReadableAt, IsFormedFor, IsTakenAt, AfterAt, IsAppended, IsMadeIn}
+use Rattle.dp_world.specs.inner.KeptLinks.{IsShownAt, IsReadyAt, Passes, LeadsAs, KeepsOthers, kept_at, made, AreShown, IsWorldAfter}
+use Rattle.dp_world.specs.inner.Changes.{IsTakenAt, AfterAt, IsAppended, IsMadeIn}
 use Rattle.dp_world.proofs.ChangeLaws.{kept_passed, kept_takes, kept_broken, some_effect, none_ready}
 
 -- ---- keys
@@ -126,23 +125,6 @@ module _ {S E : Type 0} (engines : Engines S E) (events : List Event) (e : Event
 
   past_push : past_of engines (events ++ e ∷ []) ≡ followed engines past e
   past_push = fold-append (followed engines) core.start events (e ∷ [])
-
-  -- no more was read than was sent
-  pub readable : IsReadableAt (kept_at links e.link)
-  readable = by (kept_at links e.link) link (w.each e.link) where
-    session : (l : Link) (kept : Shown S E) → IsShown engines l kept → IsReadable kept
-    session l (Registration host reply) h = tt
-    session l (Turned_away key why) h = tt
-    session (Joined key pass acts) (Session name host port engine) h = h.1.read
-    session (Ended key pass acts) (Session name host port engine) h = h.1.read
-    session New (Session name host port engine) h = absurd h
-    session (Asking other heard) (Session name host port engine) h = absurd h
-    session (Settled other answer) (Session name host port engine) h = absurd h
-    session (Refused key why) (Session name host port engine) h = absurd h
-
-    by : (o : Option (Shown S E)) (l : Link) → IsShownAt engines l o → IsReadableAt o
-    by None l h = tt
-    by (Some kept) l h = session l kept h
 
   -- a link that is made was not there
   module _ (fits : Fits events e) (is : makes e.act ≡ true) where
@@ -285,10 +267,6 @@ module _ {S E : Type 0} (engines : Engines S E) (events : List Event) (e : Event
         let told = subst (λ (x : ProxyError). Answers past e.link act (Err x)) is (told_at (Err why) answers) in
         broken_stands new told.1 (subst (λ (x : ProxyError). RepresentsAfter now w.came comes (Err x)) is stands)
 
-    -- each engine comes with a key
-    pub keyless_not : {P : Type 0} → Answers (core.past_of w.came) e.link act (Err BadInit) → IsFormedFor act → P
-    keyless_not answers formed = absurd (told_at (Err BadInit) answers (formed.key link))
-
     pub mid_none : link ≡ New → kept_at mid e.link ≡ None
     mid_none new =
         none_ready engines past.journal act (kept_at mid e.link)
@@ -301,17 +279,6 @@ module _ {S E : Type 0} (engines : Engines S E) (events : List Event) (e : Event
         (λ (l : Link). lead past.journal l (act_of engines l e.act)) new)) ∙ is
 
 -- ---- before any event
-
-pub world_begun : {S E : Type 0} (engines : Engines S E) (keeps : Keeps) (links : List (ℕ × Shown S E))
-    → Represents keeps []
-    → links ≡ [] → IsWorldAfter engines [] keeps links
-world_begun {S = S} {E = E} engines keeps links stands none = record {
-  came = [];
-  represents = stands;
-  past = refl;
-  keys = ap keys_of none;
-  each = λ n. subst (λ (l : List (ℕ × Shown S E)). IsShownAt engines New (kept_at l n)) (sym none) refl;
-}
 
 pub on_ok : {T E P Q : Type 0} (r : Result T E) → (P → Q) → OnOk r P → OnOk r Q
 on_ok (Ok value) f h = f h
