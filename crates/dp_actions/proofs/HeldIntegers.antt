@@ -19,7 +19,7 @@ use Rattle.dp_value.specs.declared.errors.ValueError.TheVariants.{Overflow}
 use Rattle.dp_value.specs.declared.value.Value.{Value}
 use Rattle.dp_value.specs.declared.value.Value.TheVariants as variant
 use Rattle.dp_value.specs.Data.{Data, integer}
-use Rattle.dp_value.specs.IntText.{is_in_64_bits}
+use Rattle.dp_bytes.specs.IntText.{is_in_64_bits}
 use Rattle.dp_value.specs.Value.{data_of}
 use Rattle.dp_actions.specs.Places.{step_under}
 use Rattle.dp_actions.specs.Run.{Done, and_then, given_up, taken}

@@ -19,10 +19,11 @@ use crate::halt::Halt;
 use crate::joins::operated;
 use crate::places::{assign_place, is_missing_place, put_place};
 use crate::signal::Signal;
+use dp_bytes::{Bytes, Items};
 use dp_operations::unary;
 use dp_state::State;
 use dp_tree::{BinaryOp, Order, UnaryOp};
-use dp_value::{Bytes, Items, Value, truthy};
+use dp_value::{Value, truthy};
 use std::alloc::Global;
 
 /// The value of an operator with one operand.

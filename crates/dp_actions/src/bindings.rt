@@ -10,9 +10,10 @@ ghost use Rattle.dp_actions.specs.Effects.{with_globals};
 
 use crate::halt::Halt;
 use crate::places::assign_variable;
+use dp_bytes::Bytes;
 use dp_state::State;
 use dp_tree::Binding;
-use dp_value::{Bytes, Key, PhpArray, Value};
+use dp_value::{Key, PhpArray, Value};
 
 /// Binds the entry at a position: its value, then its key. Where there is none it does nothing.
 pub fn bind_entry(

@@ -3,9 +3,9 @@
 ghost use Rattle.std.specs.Prelude.{option_map, ◌≡◌};
 ghost use Rattle.dp_actions.specs.Calls.{callee as callee_named, callee_of};
 
+use dp_bytes::Bytes;
 use dp_state::State;
 use dp_tree::{Bundle, Function, Native, builtin_of};
-use dp_value::Bytes;
 
 /// What a name calls: a built-in function, or one of the file of this number.
 #[derive(Clone, Copy)]

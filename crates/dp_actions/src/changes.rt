@@ -13,10 +13,11 @@ use crate::answers::value_of;
 use crate::halt::Halt;
 use crate::joins::{grown, operated};
 use crate::places::{assign_place, put_place, read_place};
+use dp_bytes::Bytes;
 use dp_operations::unary;
 use dp_state::State;
 use dp_tree::{BinaryOp, Order, UnaryOp};
-use dp_value::{Bytes, Value};
+use dp_value::Value;
 use std::alloc::Global;
 
 /// Writes what an operator makes of an old value and another one.

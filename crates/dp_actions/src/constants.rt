@@ -15,10 +15,11 @@ ghost use Rattle.dp_actions.specs.Run.{Done};
 use crate::entry_reads::builtin_call;
 use crate::faults::fatal;
 use crate::halt::Halt;
+use dp_bytes::Bytes;
 use dp_lexer::is_given;
 use dp_state::{FatalKind, State};
 use dp_tree::Native;
-use dp_value::{Bytes, Value};
+use dp_value::Value;
 use std::alloc::Global;
 
 /// The value of a constant, which has to be there.

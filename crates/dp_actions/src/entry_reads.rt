@@ -12,10 +12,11 @@ ghost use Rattle.dp_actions.specs.Values.{builtin_run};
 
 use crate::answers::{builtin_value, is_missing};
 use crate::halt::Halt;
+use dp_bytes::Memory;
 use dp_operations::{Found, builtin, copy, find, index, under};
 use dp_state::State;
 use dp_tree::Builtin;
-use dp_value::{Memory, Value, ValueError};
+use dp_value::{Value, ValueError};
 use std::alloc::Global;
 
 /// How entries are read: as values, or as isset finds them.

@@ -14,10 +14,11 @@ ghost use Rattle.dp_actions.specs.Setting.{Setting};
 use crate::faults::{fatal, settled};
 use crate::halt::Halt;
 use crate::signal::Signal;
+use dp_bytes::{Items, Memory};
 use dp_operations::text;
 use dp_state::{FatalKind, State};
 use dp_tree::{Bundle, Function, Inclusion, Statement};
-use dp_value::{Items, Memory, Value};
+use dp_value::Value;
 use std::alloc::Global;
 
 /// Enters a function of a file.

@@ -1,8 +1,8 @@
 //! Why a run breaks off.
 
+use dp_bytes::Memory;
 use dp_state::{Moment, Outcome};
 use dp_tree::Boxed;
-use dp_value::Memory;
 use std::alloc::AllocFailed;
 
 /// Why a run breaks off.

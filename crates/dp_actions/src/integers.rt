@@ -15,10 +15,11 @@ ghost use Rattle.dp_actions.specs.Values.{holds as value_holds};
 use crate::changes::put_step;
 use crate::halt::Halt;
 use crate::places::assign_variable;
+use dp_bytes::Bytes;
 use dp_operations::{comparison, integer_result};
 use dp_state::State;
 use dp_tree::{Expression, Link, Operator, UnaryOp};
-use dp_value::{Bytes, Value};
+use dp_value::Value;
 use std::alloc::Global;
 
 /// The integer that an expression comes to, if it is a number, a variable that holds an integer, or an operator between

@@ -15,10 +15,11 @@ use crate::answers::value_of;
 use crate::faults::{fatal, fault};
 use crate::halt::Halt;
 use crate::places::keys_of;
+use dp_bytes::{Bytes, Memory, Text};
 use dp_operations::{binary, text};
 use dp_state::{FatalKind, State};
 use dp_tree::BinaryOp;
-use dp_value::{Bytes, Key, Memory, Text, Value};
+use dp_value::{Key, Value, is_beyond};
 use std::alloc::Global;
 
 /// What an operator makes of two values.
@@ -54,7 +55,7 @@ fn joined_with(alloc: Global, value: Value, piece: &[u8], state: &State) -> Resu
     ensures { AtOnce (value_run (light_text (text_of (data_of value) ++ piece.now)) state.now) result state.now }
 {
     let mut text = into_text(alloc, value)?;
-    if text.is_beyond(piece) {
+    if is_beyond(&text, piece) {
         return Err(fatal(FatalKind::TooHeavy, state));
     }
     text.append(alloc, piece)?;
@@ -110,7 +111,7 @@ fn grown_by(
     ensures { AtOnce (and_then (value_run (light_text (text ++ piece.now)) state.old)
         (λ new t. keyed_write name.now keys.now false new t)) result state.new }
 {
-    if text.is_beyond(piece) {
+    if is_beyond(&text, piece) {
         return Err(fatal(FatalKind::TooHeavy, state));
     }
     match state.append(name, keys, text, piece) {

@@ -8,8 +8,9 @@ use crate::entry_reads::Reading;
 use crate::halt::Halt;
 use crate::observer::Observer;
 use crate::operands::{text_value, variable_value};
+use dp_bytes::Items;
 use dp_tree::Expression;
-use dp_value::{Items, Value};
+use dp_value::Value;
 
 impl Observer<'_> {
     ghost use Rattle.std.specs.Prelude.{◌≡◌, true};

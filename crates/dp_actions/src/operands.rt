@@ -13,8 +13,9 @@ ghost use Rattle.dp_actions.specs.Values.{holds as value_holds, kept_of, present
 use crate::answers::is_missing;
 use crate::halt::Halt;
 use crate::places::variable;
+use dp_bytes::{Bytes, Text};
 use dp_state::State;
-use dp_value::{Bytes, Text, Value, truthy};
+use dp_value::{Value, truthy};
 use std::alloc::Global;
 
 /// The value of a text literal.

@@ -18,8 +18,9 @@ use crate::entry_reads::{Reading, entry_by, is_missing_by};
 use crate::faults::settled;
 use crate::halt::Halt;
 use crate::operands::variable_value;
+use dp_bytes::{Bytes, Memory};
 use dp_state::State;
-use dp_value::{Bytes, Key, Memory, Value, ValueError, key_of};
+use dp_value::{Key, Value, ValueError, key_of};
 use std::alloc::Global;
 
 /// The value of a variable of the top frame, null where it is missing.

@@ -9,8 +9,8 @@ use crate::loud::loud_names;
 use crate::names::DeepNames;
 use crate::quiet::statement_is_quiet;
 use crate::still::{all_still, is_still};
+use dp_bytes::Memory;
 use dp_tree::{Bundle, Expression, Statement};
-use dp_value::Memory;
 use std::alloc::Global;
 
 impl<'p> DeepNames<'p> {

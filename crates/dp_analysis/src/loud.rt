@@ -11,8 +11,8 @@ ghost use Rattle.dp_analysis.specs.inner.Parts as parts;
 
 use crate::names::DeepNames;
 use crate::quiet::all_quiet;
+use dp_bytes::Memory;
 use dp_tree::{Bundle, Function};
-use dp_value::Memory;
 use std::alloc::Global;
 
 /// How many calls of functions of the program, each within the one before, are at most run whole.

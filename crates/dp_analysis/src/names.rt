@@ -6,8 +6,8 @@ ghost use Rattle.std.specs.Option.{option_copied};
 ghost use Rattle.std.specs.Str.{str_eq_ignore_ascii_case, str_to_ascii_lowercase};
 ghost use Rattle.dp_analysis.specs.Still.{calls_of, is_named};
 
+use dp_bytes::{Bytes, Memory};
 use dp_tree::{Function, builtin_of};
-use dp_value::{Bytes, Memory};
 use indexmap::IndexSet;
 use std::alloc::Global;
 use std::hash::{Hash, Hasher};

@@ -10,10 +10,10 @@ ghost use Rattle.dp_async.specs.inner.Standing.{IsRunningAnswer};
 ghost use Rattle.dp_wire.specs.Frames.{IsPacketText};
 
 use crate::commands::{asks_for_status, asks_to_break, break_refusal, is_text, row_refusal};
+use dp_bytes::{Bytes, Memory};
 use dp_command::{Addressee, CommandName, Line, option_value};
 use dp_engine::{fault_text, feature_text, status_text, success_text};
 use dp_packet::ErrorCode;
-use dp_value::{Bytes, Memory};
 use std::alloc::Global;
 
 /// What a `break` is answered that is refused so, or is not refused.

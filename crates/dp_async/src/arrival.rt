@@ -1,6 +1,6 @@
 //! What was heard.
 
-use dp_value::Bytes;
+use dp_bytes::Bytes;
 
 /// What came at a moment of the program. No bytes are the end of the input, or its failure.
 #[derive(Debug, Drop)]

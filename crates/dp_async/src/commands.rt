@@ -6,9 +6,9 @@ ghost use Rattle.dp_command.specs.Letters as letter;
 ghost use Rattle.dp_command.specs.Tests.{first_code};
 ghost use Rattle.dp_async.specs.Listens as spec;
 
+use dp_bytes::Bytes;
 use dp_command::{CommandName, Line, fits_row, has_duplicate, id_of};
 use dp_packet::ErrorCode;
-use dp_value::Bytes;
 
 /// Whether a text is the one that is wanted. Takes no memory.
 pub(crate) fn is_text(text: &[u8], wanted: &[u8]) -> bool

@@ -12,8 +12,8 @@ mod service;
 
 pub use arrival::Arrival;
 pub use beside::serve_async;
+pub use dp_bytes::Memory;
 pub use dp_engine::{ServeEnd, Served, Steps};
-pub use dp_value::Memory;
 pub use errors::AsyncError;
 pub use listener::BYTE_LIMIT;
 pub use service::{AsyncServed, serve_polled};

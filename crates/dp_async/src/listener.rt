@@ -14,11 +14,11 @@ ghost use Rattle.dp_async.specs.Served.{IsLater, input_of};
 
 use crate::answers::{own_text, running_answer};
 use crate::arrival::Arrival;
+use dp_bytes::{Bytes, Items, Memory};
 use dp_conversation::{Fault, SessionOver, deliver, send};
 use dp_engine::{Answer, Departure, Going, Passing, Phase, Session, SessionEnd, Steps, line_in};
 use dp_outside::Sink;
 use dp_polled::{Look, Polled};
-use dp_value::{Bytes, Items, Memory};
 use dp_wire::Commands;
 use std::alloc::Global;
 use std::sync::ledger::Ledger;

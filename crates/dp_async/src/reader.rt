@@ -4,9 +4,9 @@ ghost use Rattle.dp_async.specs.Beside.{flow_of};
 ghost use Rattle.dp_async.specs.inner.Reading.{HasPut, IsReader, NextPiece, ReadsOut};
 
 use crate::listener::PIECE;
+use dp_bytes::Bytes;
 use dp_outside::{Job, Source};
 use dp_polled::{Piece, Post, PostSeat};
-use dp_value::Bytes;
 use std::alloc::Global;
 use std::sync::Wait;
 use std::thread::yield_now;

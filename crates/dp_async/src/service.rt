@@ -8,11 +8,11 @@ ghost use Rattle.dp_async.specs.Served.{Hears, IsLater, input_of};
 
 use crate::arrival::Arrival;
 use crate::listener::{Cut, Listener, Over};
+use dp_bytes::Items;
 use dp_engine::{ServeEnd, Served, Session, Steps, close, close_cut};
 use dp_outside::Sink;
 use dp_polled::Polled;
 use dp_tree::Bundle;
-use dp_value::Items;
 use std::alloc::Global;
 use std::sync::ledger::Ledger;
 

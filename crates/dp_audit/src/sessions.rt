@@ -1,9 +1,9 @@
 //! A session of the engine that is recorded.
+use dp_bytes::{Bytes, Memory};
 use dp_conversation::Responder;
 use dp_engine::{Answer, Session, SessionEnd, Steps};
 use dp_records::Recorded;
 use dp_state::Outcome;
-use dp_value::{Bytes, Memory};
 use std::alloc::Global;
 use std::marker::Model;
 use std::sync::ledger::Ledger;

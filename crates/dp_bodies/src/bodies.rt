@@ -8,7 +8,7 @@ ghost use Rattle.dp_bodies.specs.Received.{IsCause};
 
 use crate::BodyError;
 use crate::heads::{Head, read_head};
-use dp_value::Memory;
+use dp_bytes::Memory;
 use dp_wire::Held;
 use std::alloc::Global;
 use std::marker::Model;

@@ -4,7 +4,7 @@ ghost use Rattle.std.specs.Prelude.{◌≡◌, IfOk};
 ghost use Rattle.dp_bodies.specs.Frames.{body_frame};
 
 use crate::heads::{HEAD_END, LENGTH_NAME};
-use dp_value::{Bytes, Memory};
+use dp_bytes::{Bytes, Memory};
 use std::alloc::Global;
 
 /// The frame of a body: its head with its length, whatever that is, and the body.

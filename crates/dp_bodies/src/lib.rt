@@ -12,7 +12,7 @@ mod texts;
 
 pub use bodies::Bodies;
 pub use body::body_bytes;
-pub use dp_value::Memory;
+pub use dp_bytes::Memory;
 pub use errors::{BodyError, DapError};
 pub use heads::BODY_LIMIT;
 pub use laws::{no_body_begins_another, one_split_of_bodies};

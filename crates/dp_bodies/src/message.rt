@@ -8,7 +8,7 @@ ghost use Rattle.serde_json.specs.Read.{read, max_depth};
 ghost use Rattle.serde_json.specs.View.{view};
 ghost use Rattle.serde_json.specs.Written.{has_float, compact_text, IsInOrder};
 
-use dp_value::{Bytes, Memory};
+use dp_bytes::{Bytes, Memory};
 use serde_json::Value;
 use std::alloc::Global;
 

@@ -10,7 +10,7 @@ ghost use Rattle.dp_bodies.specs.Requests as spec;
 ghost use Rattle.dp_bodies.specs.declared.errors.DapError.TheVariants.{NotRequest};
 
 use crate::errors::DapError;
-use dp_value::{Bytes, Memory};
+use dp_bytes::{Bytes, Memory};
 use serde_json::Value;
 use std::alloc::Global;
 

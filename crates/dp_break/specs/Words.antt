@@ -9,7 +9,7 @@ use Rattle.dp_packet.specs.declared.packet.BreakKind.{BreakKind}
 use Rattle.dp_packet.specs.declared.packet.BreakKind.TheVariants.{Line, Call, Return, Conditional}
 use Rattle.dp_packet.specs.declared.packet.HitRule.{HitRule}
 use Rattle.dp_packet.specs.declared.packet.HitRule.TheVariants.{AtLeast, Exactly, Multiple}
-use Rattle.dp_value.specs.Decimals.{decimal_in}
+use Rattle.dp_bytes.specs.Decimals.{decimal_in}
 
 -- the value whose name a word is
 abbrev pub named : {A : Type 0} → (A → List ℕ) → List A → List ℕ → Option A

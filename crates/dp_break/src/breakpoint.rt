@@ -1,8 +1,8 @@
 //! Breakpoints, and what is asked of them.
 
+use dp_bytes::Bytes;
 use dp_packet::{BreakKind, HitRule};
 use dp_tree::Expression;
-use dp_value::Bytes;
 
 /// A breakpoint that is asked for. Files are named by their numbers in the bundle, lines count from 1.
 #[derive(Debug, Drop)]

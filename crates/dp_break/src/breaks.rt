@@ -17,11 +17,11 @@ use crate::hits::is_of_function;
 use crate::lines::requested_line;
 use crate::moments::{any_hits, mark, settle};
 use crate::new_breakpoints::new_breakpoint;
+use dp_bytes::Memory;
 use dp_lexer::NAME_LIMIT;
 use dp_packet::ErrorCode;
 use dp_state::{Moment, State};
 use dp_tree::Bundle;
-use dp_value::Memory;
 use std::alloc::Global;
 use std::marker::Model;
 

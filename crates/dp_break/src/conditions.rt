@@ -8,12 +8,13 @@ ghost use Rattle.dp_break.specs.inner.Causes.{IsNoTree, error_of, pure_or_refuse
 ghost use Rattle.dp_tree.specs.Purity.{is_pure};
 
 use crate::errors::BreakError;
+use dp_bytes::{Bytes, Memory};
 use dp_meaning::value_in;
 use dp_packet::ErrorCode;
 use dp_parse::{ParseError, parse_expression};
 use dp_state::State;
 use dp_tree::{Bundle, Expression, is_pure};
-use dp_value::{Bytes, Memory, truthy};
+use dp_value::truthy;
 use std::alloc::Global;
 
 /// The most bytes that an expression may have.

@@ -6,10 +6,10 @@ ghost use Rattle.dp_break.specs.Tables.{IsSound};
 
 use crate::breakpoint::Breakpoint;
 use crate::conditions::is_true;
+use dp_bytes::{Bytes, Memory};
 use dp_packet::{BreakKind, HitRule};
 use dp_state::{Moment, MomentKind, State};
 use dp_tree::Bundle;
-use dp_value::{Bytes, Memory};
 use std::alloc::Global;
 
 /// Whether breakpoints of this kind are on functions, and not on lines.

@@ -25,8 +25,8 @@ pub use answers::answer_breakpoints;
 pub use breakpoint::{BreakChange, BreakRequest, Breakpoint};
 pub use breaks::Breaks;
 pub use change::breakpoint_change;
+pub use dp_bytes::Memory;
 pub use dp_packet::{BreakKind, ErrorCode, HitRule};
-pub use dp_value::Memory;
 pub use errors::BreakError;
 pub use hits::is_of_function;
 pub use laws::{

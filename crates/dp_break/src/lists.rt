@@ -13,10 +13,10 @@ ghost use Rattle.dp_wire.specs.Frames.{packet_limit};
 use crate::breakpoint::Breakpoint;
 use crate::responses::lines_response;
 use crate::shown::{breakpoint_line, read_numbers};
+use dp_bytes::Memory;
 use dp_command::Addressee;
 use dp_packet::{BreakLine, Response, attribute_size, break_size};
 use dp_tree::Bundle;
-use dp_value::Memory;
 use dp_wire::PACKET_LIMIT;
 use std::alloc::Global;
 

@@ -9,9 +9,9 @@ ghost use Rattle.dp_break.specs.Tables.{IsSound};
 
 use crate::breakpoint::Breakpoint;
 use crate::hits::{is_enough, is_hit};
+use dp_bytes::Memory;
 use dp_state::{Moment, State};
 use dp_tree::Bundle;
-use dp_value::Memory;
 use std::alloc::Global;
 
 /// Whether one of the breakpoints hits at a moment in a state. Memory is taken only where one of them asks its

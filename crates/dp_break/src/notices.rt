@@ -12,10 +12,10 @@ ghost use Rattle.dp_wire.specs.Frames.{packet_limit};
 use crate::breakpoint::Breakpoint;
 use crate::breaks::Breaks;
 use crate::shown::{breakpoint_line, read_numbers};
+use dp_bytes::{Bytes, Memory};
 use dp_command::{BreakpointRequest, number_of};
 use dp_packet::Notify;
 use dp_tree::Bundle;
-use dp_value::{Bytes, Memory};
 use std::alloc::Global;
 
 /// The line that a command asks for, if it is one.

@@ -14,11 +14,11 @@ use crate::breakpoint::BreakRequest;
 use crate::errors::BreakError;
 use crate::hits::is_of_function;
 use crate::words::{flag_given, kind_named, number_given, rule_given, state_given};
+use dp_bytes::Bytes;
 use dp_command::BreakpointSet;
 use dp_file_uris::requested_file;
 use dp_packet::{BreakKind, ErrorCode, HitRule};
 use dp_tree::Bundle;
-use dp_value::Bytes;
 use std::alloc::Global;
 
 /// What the words of a breakpoint_set command mean.

@@ -7,9 +7,9 @@ ghost use Rattle.dp_packet.specs.declared.packet.Packet.TheVariants as packet;
 ghost use Rattle.dp_packet.specs.Text.{text};
 ghost use Rattle.dp_wire.specs.Frames.{packet_limit};
 
+use dp_bytes::{Bytes, Items, Memory};
 use dp_command::Addressee;
 use dp_packet::{Body, BreakLine, Response};
-use dp_value::{Bytes, Items, Memory};
 use itoa::Buffer;
 use std::alloc::Global;
 

@@ -5,9 +5,9 @@ ghost use Rattle.dp_break.specs.Shown as spec;
 ghost use Rattle.dp_break.specs.inner.Numbers.{HasNumbers};
 
 use crate::breakpoint::Breakpoint;
+use dp_bytes::{Bytes, Memory};
 use dp_packet::{BreakLine, file_uri};
 use dp_tree::Bundle;
-use dp_value::{Bytes, Memory};
 use std::alloc::Global;
 
 /// The URI of the file of this number, where there is one.

@@ -4,9 +4,9 @@ ghost use Rattle.std.specs.Prelude.{◌≡◌, false, true, IfErr, IfOk, OnOk};
 ghost use Rattle.dp_break.specs.Words as spec;
 
 use crate::errors::BreakError;
+use dp_bytes::Bytes;
 use dp_command::number_of;
 use dp_packet::{BreakKind, ErrorCode, HitRule};
-use dp_value::Bytes;
 
 /// What makes a breakpoint of this type stop: `line`, `call`, `return` or `conditional`.
 #[tactic(auto, unfolding(crate::specs::Words::kind_named))]

@@ -2,8 +2,8 @@
 
 ghost use Rattle.std.specs.Prelude.{◌≡◌};
 
+use dp_bytes::Memory;
 use dp_parse::ParseError;
-use dp_value::Memory;
 use std::alloc::AllocFailed;
 use thiserror::Error;
 

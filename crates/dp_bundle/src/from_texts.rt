@@ -8,9 +8,9 @@ ghost use Rattle.dp_bundle.specs.declared.errors.BundleError.{BundleError as Ref
 ghost use Rattle.dp_tree.specs.declared.bundle.BundleFile.{BundleFile as MadeFile};
 
 use crate::errors::BundleError;
+use dp_bytes::{Bytes, Items};
 use dp_parse::{ParseError, parse_file};
 use dp_tree::{Bundle, BundleFile, FILE_LIMIT, Files};
-use dp_value::{Bytes, Items};
 use std::alloc::Global;
 
 /// The refusal of the file of this number, whose text has no tree.

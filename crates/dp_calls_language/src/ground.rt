@@ -1,9 +1,10 @@
 //! Calls of the crates of the ground.
 
 use dp_adapters::ReaderSource;
+use dp_bytes::{Memory, Text, decimal};
 use dp_outside::{ByteSink, Sink, Source};
 use dp_polled::{ListPolled, Look, Polled};
-use dp_value::{Key, Memory, PhpArray, Value, ValueError};
+use dp_value::{Key, PhpArray, Value, ValueError};
 use dp_wire::Commands;
 use std::alloc::Global;
 
@@ -31,6 +32,19 @@ pub(crate) fn dp_adapters(alloc: Global) -> Result<String, Memory> {
     // end
     let count = count.unwrap_or(0);
     format!(in alloc; "{count} bytes, {faults} faults")
+}
+
+/// A text grows, and its other owner has what it had.
+pub(crate) fn dp_bytes(alloc: Global) -> Result<String, Memory> {
+    // call
+    let mut text = Text::from_slice(alloc, b"12")?;
+    let other = text.try_clone()?;
+    text.append(alloc, b"34")?;
+    let number = decimal(text.as_slice(), 9_999);
+    // end
+    let number = number.unwrap_or(0);
+    let kept = other.len();
+    format!(in alloc; "{number}, {kept} bytes")
 }
 
 /// An array has values under keys.

@@ -8,8 +8,8 @@ mod programs;
 mod runs;
 mod texts;
 
+use dp_bytes::Memory;
 use dp_tree::Bundle;
-use dp_value::Memory;
 use std::alloc::Global;
 use std::io;
 use std::marker::Brand;
@@ -31,6 +31,7 @@ fn put<E: Drop>(told: &mut String, name: &str, answer: Result<String, E>) -> Res
 fn put_ground(alloc: Global, told: &mut String) -> Result<(), Memory> {
     put(told, "dp_outside", ground::dp_outside(alloc))?;
     put(told, "dp_adapters", ground::dp_adapters(alloc))?;
+    put(told, "dp_bytes", ground::dp_bytes(alloc))?;
     put(told, "dp_value", ground::dp_value(alloc))?;
     put(told, "dp_wire", ground::dp_wire(alloc))?;
     put(told, "dp_polled", ground::dp_polled(alloc))

@@ -1,9 +1,10 @@
 //! Calls of the crates of trees and values.
 
+use dp_bytes::{Bytes, Items, Memory};
 use dp_operations::{binary, text};
 use dp_parse::{ParseError, parse_file};
 use dp_tree::{BinaryOp, Bundle, BundleFile, Files};
-use dp_value::{Bytes, Items, Memory, Value, ValueError};
+use dp_value::{Value, ValueError};
 use std::alloc::Global;
 
 /// Operators are case tables.

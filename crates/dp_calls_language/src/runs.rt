@@ -2,12 +2,13 @@
 ghost use Rattle.std.specs.Prelude.{◌≡◌, ◌<◌};
 
 use dp_actions::{Halt, observe};
+use dp_bytes::{Bytes, Memory};
 use dp_meaning::{Stop, run_to};
 use dp_parse::parse_expression;
 use dp_state::{Fault, State};
 use dp_step::{Machine, Steps};
 use dp_tree::{Bundle, is_pure};
-use dp_value::{Bytes, Memory, Value};
+use dp_value::Value;
 use std::alloc::Global;
 use std::sync::ledger::{Blank, Ledger};
 

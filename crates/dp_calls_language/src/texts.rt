@@ -1,12 +1,12 @@
 //! Calls of the crates of texts.
 
 use dp_bodies::{Bodies, DapError, body_bytes, request_of};
+use dp_bytes::{Bytes, Memory};
 use dp_command::{Command, LineError, Request, SessionRequest, read_line};
 use dp_features::{Features, Setting};
 use dp_markup::{MarkupError, read, write};
 use dp_packet::{Packet, text_of};
 use dp_reply::{ReplyError, packet_of};
-use dp_value::{Bytes, Memory};
 use std::alloc::Global;
 
 /// Markup is read, and written in its canonical form.

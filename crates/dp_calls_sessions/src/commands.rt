@@ -1,9 +1,9 @@
 //! Calls of the crates of the program's commands.
 
+use dp_bytes::Memory;
 use dp_ide::{IdeError, Script};
 use dp_outside::{ByteSink, ByteSource};
 use dp_show::show;
-use dp_value::Memory;
 use dp_words::{Command, read_words};
 use std::alloc::Global;
 

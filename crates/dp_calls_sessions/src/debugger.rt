@@ -2,12 +2,12 @@
 
 use crate::states::{Meant, int_in, int_of};
 use dp_break::Breaks;
+use dp_bytes::{Bytes, Memory};
 use dp_command::{Addressee, LookRequest, WriteRequest};
 use dp_features::Features;
 use dp_file_uris::requested_file;
 use dp_state::{Moment, State};
 use dp_tree::Bundle;
-use dp_value::{Bytes, Memory};
 use dp_view::{Paging, ViewError, named_property, stack};
 use dp_view_commands::view_response;
 use dp_view_limits::limited_property;

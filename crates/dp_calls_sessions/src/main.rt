@@ -6,10 +6,10 @@ mod debugger;
 mod proxies;
 mod states;
 
+use dp_bytes::Memory;
 use dp_meaning::{Stop, run_to};
 use dp_state::{Moment, State};
 use dp_tree::Bundle;
-use dp_value::Memory;
 use std::alloc::Global;
 use std::io;
 

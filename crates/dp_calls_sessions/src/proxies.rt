@@ -1,10 +1,10 @@
 //! Calls of the crates of proxies.
 
+use dp_bytes::{Bytes, Memory};
 use dp_events::{Events, ListError};
 use dp_lanes::{Lane, LaneKind, carry};
 use dp_proxy::{Act, Effect, Event, Proxy, ProxyError};
 use dp_registry::{Refusal, Registry};
-use dp_value::{Bytes, Memory};
 use std::alloc::Global;
 
 /// A key is registered, and an engine admitted under it.

@@ -1,11 +1,12 @@
 //! The program of the calls, and what its values are.
 
+use dp_bytes::{Bytes, Items, Memory};
 use dp_meaning::evaluation;
 use dp_packet::{Property, Shape};
 use dp_parse::{ParseError, parse_file};
 use dp_state::State;
 use dp_tree::{Bundle, BundleFile, Expression, Files};
-use dp_value::{Bytes, Items, Memory, Value};
+use dp_value::Value;
 use dp_write_commands::Evaluator;
 use std::alloc::Global;
 

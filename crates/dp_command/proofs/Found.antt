@@ -6,7 +6,7 @@ use Rattle.std.proofs.lemmas.List.{take-append-drop}
 use Rattle.std.proofs.lemmas.List.Folds.{length-prefix_len}
 use Rattle.base64.specs.Engines.{standard}
 use Rattle.base64.specs.GeneralPurpose.{encode_of, IsBytes}
-use Rattle.dp_value.specs.Quotes.{in_quotes}
+use Rattle.dp_bytes.specs.Quotes.{in_quotes}
 use Rattle.dp_command.specs.Sorts.{is_space, is_name_byte, is_letter, is_bare, is_text, begins}
 use Rattle.dp_command.specs.Grammar.{Rule, ◌>>◌, Mark, Spaces, SomeSpaces, Name, InQuotes, Repeated, Value, Argument, Given, Ending}
 use Rattle.dp_command.specs.inner.Parts.{◌>>=◌, run_at, spaces_at, name_at, items_at, pair_at, byte_at, quoted_at, bare_at, value_at, letter_of, letter_at, argument_of, option_at, options_at, text_at, dashed, ending_at, parts_at}

@@ -3,7 +3,7 @@ use Rattle.std.specs.Prelude.{◌≡◌, ℕ, true, Bool, if◌then◌else◌, n
 use Rattle.std.specs.List.{flat_map, AllByRecursion}
 use Rattle.base64.specs.Engines.{standard}
 use Rattle.base64.specs.GeneralPurpose.{encode_of, IsBytes}
-use Rattle.dp_value.specs.Quotes.{in_quotes}
+use Rattle.dp_bytes.specs.Quotes.{in_quotes}
 use Rattle.dp_command.specs.declared.line.Line.{Line}
 use Rattle.dp_command.specs.Sorts.{is_letter, is_bare}
 use Rattle.dp_command.specs.Grammar.{IsName}

@@ -3,7 +3,7 @@
 use Rattle.std.specs.Prelude.{◌≡◌, ℕ, ◌≤◌, true, ◌⊎◌, List, [], ◌∷◌, ◌++◌, length, codes, Option, Some, None}
 use Rattle.base64.specs.Engines.{standard}
 use Rattle.base64.specs.GeneralPurpose.{encode_of, IsBytes}
-use Rattle.dp_value.specs.Quotes.{in_quotes}
+use Rattle.dp_bytes.specs.Quotes.{in_quotes}
 use Rattle.dp_command.specs.declared.line.Line.{Line}
 use Rattle.dp_grammar.specs.Parts.{Part}
 use Rattle.dp_command.specs.Sorts.{is_space, is_name_byte, is_letter, is_bare, Each}

@@ -16,7 +16,7 @@ use Rattle.dp_command.specs.Letters as letter
 use Rattle.dp_command.specs.Names.{name_of}
 use Rattle.dp_packet.specs.declared.error_codes.ErrorCode.{ErrorCode}
 use Rattle.dp_packet.specs.declared.error_codes.ErrorCode.TheVariants as code
-use Rattle.dp_value.specs.Decimals.{decimal_in}
+use Rattle.dp_bytes.specs.Decimals.{decimal_in}
 use Rattle.dp_command.specs.Numbers.{greatest}
 use Rattle.dp_command.specs.Options.{Options, given, is_given, has_duplicate, mode_of}
 use Rattle.dp_command.specs.Table.{slots_of, payload_of}

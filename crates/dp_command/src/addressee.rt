@@ -6,7 +6,7 @@ ghost use Rattle.dp_command.specs.Refusals.{id_limit};
 
 use crate::line::Line;
 use crate::refusals::id_of;
-use dp_value::{Bytes, Memory};
+use dp_bytes::{Bytes, Memory};
 use std::alloc::Global;
 
 /// The name of a command and its transaction id, as the reply repeats them.

@@ -1,6 +1,6 @@
 //! Typed commands.
 
-use dp_value::Bytes;
+use dp_bytes::Bytes;
 
 /// A command, and the transaction id that its reply repeats.
 #[derive(Debug, Drop)]

@@ -24,7 +24,7 @@ pub use command::{
     Finish, LookRequest, PropertyPlace, PropertySet, Request, SessionRequest, SourceRange, Stream,
     StreamMode, WriteRequest,
 };
-pub use dp_value::Memory;
+pub use dp_bytes::Memory;
 pub use errors::{CommandError, LineError, Refusal};
 pub use laws::line_of_is_spelt;
 pub use line::Line;

@@ -1,6 +1,6 @@
 //! A command line.
 
-use dp_value::{Bytes, Items};
+use dp_bytes::{Bytes, Items};
 
 /// A command line: the command's name, its options in the order given, and the bytes that its
 /// payload decodes to. DBGp 1.0, "Command Line Format".

@@ -16,7 +16,7 @@ use crate::line::Line;
 use crate::names::CommandName;
 use crate::options::{copy_of, mode_given, number_given, number_or_zero, text_given};
 use crate::refusals::{fits_row, id_of};
-use dp_value::{Bytes, Memory};
+use dp_bytes::{Bytes, Memory};
 use std::alloc::Global;
 
 impl Command {

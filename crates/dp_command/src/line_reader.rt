@@ -13,7 +13,7 @@ use crate::line::Line;
 use crate::line_writer::write_line;
 use crate::parts::{ending, name};
 use crate::values::{options, payload};
-use dp_value::{Bytes, Items};
+use dp_bytes::{Bytes, Items};
 use std::alloc::Global;
 
 /// The name, the options, and the text of the payload where there is one.

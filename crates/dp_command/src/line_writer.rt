@@ -10,7 +10,7 @@ use crate::Memory;
 use crate::line::Line;
 use crate::sort::Sort;
 use base64::engine::general_purpose::STANDARD;
-use dp_value::{Bytes, put_in_quotes};
+use dp_bytes::{Bytes, put_in_quotes};
 use std::alloc::Global;
 
 /// The canonical form of a line: one space between parts, none at the end, and quotes round a value

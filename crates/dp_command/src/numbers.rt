@@ -1,10 +1,10 @@
 //! Numbers in options.
 
 ghost use Rattle.std.specs.Prelude.{◌≡◌};
-ghost use Rattle.dp_value.specs.Decimals.{decimal_in};
+ghost use Rattle.dp_bytes.specs.Decimals.{decimal_in};
 ghost use Rattle.dp_command.specs.Numbers.{greatest};
 
-use dp_value::decimal;
+use dp_bytes::decimal;
 
 const GREATEST: u64 = 2_147_483_647;
 

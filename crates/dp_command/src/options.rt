@@ -6,7 +6,7 @@ ghost use Rattle.dp_command.specs.Options as spec;
 
 use crate::command::StreamMode;
 use crate::numbers::number_of;
-use dp_value::{Bytes, Memory};
+use dp_bytes::{Bytes, Memory};
 use std::alloc::Global;
 
 /// The value of the first option of a letter. Takes no memory.

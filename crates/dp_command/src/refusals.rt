@@ -11,7 +11,7 @@ use crate::names::CommandName;
 use crate::numbers::number_of;
 use crate::options::{has_duplicate, is_given, mode_of, option_value};
 use crate::slots::{Kind, Presence, Slot, payload_of, slots_of};
-use dp_value::Bytes;
+use dp_bytes::Bytes;
 
 /// The most bytes of a transaction id.
 const ID_LIMIT: usize = 64;

@@ -12,7 +12,7 @@ use crate::parts::{letter, spaces};
 use crate::sort::{Sort, run};
 use base64::DecodeAllocError;
 use base64::engine::general_purpose::STANDARD;
-use dp_value::{Bytes, Items};
+use dp_bytes::{Bytes, Items};
 use std::alloc::Global;
 
 /// The byte between quotes that stands here; none at the closing quote.

@@ -7,7 +7,7 @@ ghost use Rattle.dp_conversation.specs.Growth.{served};
 ghost use Rattle.dp_conversation.specs.NextAnswer.{AreTextsNext, ComesNext, ComesUnfailed};
 
 use crate::responder::{Answer, Responder};
-use dp_value::{Bytes, Items, Memory};
+use dp_bytes::{Bytes, Items, Memory};
 use dp_wire::Commands;
 use std::alloc::Global;
 

@@ -9,7 +9,7 @@ mod puts;
 mod responder;
 
 pub use conversation::{Conversation, Next};
-pub use dp_value::Memory;
+pub use dp_bytes::Memory;
 pub use laws::{feeding_goes_on, one_session_grows};
 pub use link::{BYTE_LIMIT, Fault, SessionOver, converse, deliver, send};
 pub use puts::{append_packets, put_unless_empty};

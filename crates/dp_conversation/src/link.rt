@@ -12,8 +12,8 @@ ghost use Rattle.dp_conversation.specs.Service.{IsConversed, IsConversationCut};
 use crate::conversation::{Conversation, Next};
 use crate::puts::{Unsent, put_unless_empty, send_all, send_packet};
 use crate::responder::{Answer, Responder};
+use dp_bytes::Memory;
 use dp_outside::{Sink, Source};
-use dp_value::Memory;
 use std::alloc::{AllocError, Global};
 
 /// The most bytes that one session reads.

@@ -5,8 +5,8 @@ ghost use Rattle.dp_outside.specs.Causes.{HasCause, Rose};
 ghost use Rattle.dp_outside.specs.Streams.{PutAppends};
 ghost use Rattle.dp_wire.specs.Frames.{IsPacketText, packet_frame};
 
+use dp_bytes::{Bytes, Memory};
 use dp_outside::{Failed, Sink};
-use dp_value::{Bytes, Memory};
 use dp_wire::packet_bytes;
 use std::alloc::{AllocError, Global};
 

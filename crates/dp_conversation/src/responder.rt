@@ -4,7 +4,7 @@ ghost use Rattle.std.specs.List.{AllByRecursion};
 ghost use Rattle.dp_wire.specs.Frames.{IsCommand, IsPacketText};
 ghost use Rattle.dp_conversation.specs.Folds.{Reply, reply_of};
 
-use dp_value::{Bytes, Items, Memory};
+use dp_bytes::{Bytes, Items, Memory};
 use std::alloc::Global;
 
 /// What one command leads to.

@@ -13,8 +13,8 @@ use Rattle.dp_command.specs.declared.command.Continuation.TheVariants as going
 use Rattle.dp_command.specs.declared.line.Line.{Line}
 use Rattle.dp_command.specs.Canonical.{canonical}
 use Rattle.dp_command.specs.Numbers.{greatest}
-use Rattle.dp_value.specs.Decimals.{decimal_in}
-use Rattle.dp_value.specs.Names.{without_slash}
+use Rattle.dp_bytes.specs.Decimals.{decimal_in}
+use Rattle.dp_bytes.specs.Names.{without_slash}
 use Rattle.dp_engine.specs.declared.session.SessionEnd.{SessionEnd}
 use Rattle.dp_engine.specs.declared.session.SessionEnd.TheVariants.{Finished}
 use Rattle.dp_engine.specs.declared.states.Phase.{Phase}

@@ -4,12 +4,12 @@ ghost use Rattle.std.specs.Prelude.{◌≡◌, codes, option_and_then, option_ma
 ghost use Rattle.std.specs.List.{find};
 ghost use Rattle.std.specs.Str.{bytes_eq};
 ghost use Rattle.dp_command.specs.Numbers.{greatest};
-ghost use Rattle.dp_value.specs.Decimals.{decimal_in};
+ghost use Rattle.dp_bytes.specs.Decimals.{decimal_in};
 ghost use Rattle.dp_dap.specs.Answers as spec;
 
+use dp_bytes::{Bytes, are_alike};
 use dp_command::number_of;
 use dp_packet::Response;
-use dp_value::{Bytes, are_alike};
 
 /// A breakpoint that is set: the path by which it was, and its id.
 #[derive(Debug, Drop)]

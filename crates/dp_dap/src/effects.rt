@@ -3,9 +3,9 @@
 ghost use Rattle.std.specs.Prelude.{◌≡◌};
 ghost use Rattle.dp_dap.specs.declared.effects.Unanswered.TheVariants.{Memory};
 
+use dp_bytes::{Bytes, Items};
 use dp_dap_messages::{News, Refusal};
 use dp_engine::SessionEnd;
-use dp_value::{Bytes, Items};
 use serde_json::Value;
 use std::alloc::{AllocError, AllocFailed};
 

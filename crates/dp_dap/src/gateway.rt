@@ -23,6 +23,7 @@ use crate::replies::{
     code_of, contexts_in, fault_of, has_ended, held_at, result_in, shown_in, stacks_in,
 };
 use dp_bodies::{DapError, DapRequest, request_of};
+use dp_bytes::{Bytes, Items, Memory};
 use dp_command::Continuation;
 use dp_dap_messages::{
     Asked, Hits, News, Place, Refusal, RequestName, Stage, StopReason, Wish, lines, messages, news,
@@ -30,7 +31,6 @@ use dp_dap_messages::{
 };
 use dp_engine::{Report, Session, SessionEnd, Steps};
 use dp_tree::Bundle;
-use dp_value::{Bytes, Items, Memory};
 use dp_wire::COMMAND_LIMIT;
 use serde_json::Value;
 use std::alloc::Global;

@@ -9,7 +9,7 @@ mod service;
 
 pub use breakpoints::Kept;
 pub use dp_bodies::DapError;
-pub use dp_value::Memory;
+pub use dp_bytes::Memory;
 pub use effects::DapAnswer;
 pub use gateway::Gateway;
 pub use service::serve_dap;

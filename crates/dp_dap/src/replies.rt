@@ -6,11 +6,11 @@ ghost use Rattle.dp_packet.specs.declared.property.Shape.TheViews.{out-Shape};
 ghost use Rattle.dp_view.specs.Children.{entries_in};
 ghost use Rattle.dp_dap.specs.Answers as spec;
 
+use dp_bytes::{Bytes, Memory};
 use dp_dap_messages::{Place, shown};
 use dp_engine::{Phase, SessionEnd};
 use dp_packet::{Body, Property, Shape, StackLine};
 use dp_state::Outcome;
-use dp_value::{Bytes, Memory};
 use std::alloc::Global;
 
 /// The code of the error that a response tells.

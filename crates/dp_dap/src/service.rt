@@ -16,10 +16,10 @@ ghost use Rattle.dp_dap.specs.Service.{Serves};
 use crate::effects::DapAnswer;
 use crate::gateway::Gateway;
 use dp_bodies::{Bodies, DapError, body_bytes};
+use dp_bytes::{Bytes, Memory};
 use dp_conversation::{BYTE_LIMIT, Fault, SessionOver};
 use dp_engine::{Served, SessionEnd, Steps, close, close_cut};
 use dp_outside::{Sink, Source};
-use dp_value::{Bytes, Memory};
 use std::alloc::Global;
 use std::sync::ledger::Ledger;
 

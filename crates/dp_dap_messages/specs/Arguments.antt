@@ -8,7 +8,7 @@ use Rattle.dp_bodies.specs.Requests.{whole}
 use Rattle.dp_bodies.specs.Texts.{php_text}
 use Rattle.dp_command.specs.declared.command.Continuation.TheVariants as going
 use Rattle.dp_command.specs.Numbers.{greatest}
-use Rattle.dp_value.specs.Decimals.{decimal_in}
+use Rattle.dp_bytes.specs.Decimals.{decimal_in}
 use Rattle.dp_dap_messages.specs.declared.arguments.Hits.{Hits}
 use Rattle.dp_dap_messages.specs.declared.arguments.Hits.TheVariants.{Any, On, Bad}
 use Rattle.dp_dap_messages.specs.declared.arguments.Asked.{Asked}

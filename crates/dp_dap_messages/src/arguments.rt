@@ -7,8 +7,8 @@ ghost use Rattle.dp_dap_messages.specs.Arguments as spec;
 
 use crate::table::RequestName;
 use dp_bodies::{php_text, whole};
+use dp_bytes::{Bytes, Items, Memory};
 use dp_command::{Continuation, number_of};
-use dp_value::{Bytes, Items, Memory};
 use serde_json::Value;
 use std::alloc::Global;
 

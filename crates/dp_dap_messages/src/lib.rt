@@ -11,7 +11,7 @@ pub mod shown;
 mod table;
 
 pub use arguments::{Asked, Hits, Wish, read_wish};
-pub use dp_value::Memory;
+pub use dp_bytes::Memory;
 pub use effects::{News, Refusal, StopReason};
 pub use lines::Place;
 pub use table::{RequestName, Stage};

@@ -7,8 +7,8 @@ ghost use Rattle.dp_wire.specs.Frames.{IsCommand, has_no_nul};
 ghost use Rattle.dp_dap_messages.specs.Lines as spec;
 ghost use Rattle.dp_dap_messages.specs.inner.Lettered.{AreLettered};
 
+use dp_bytes::{Bytes, Items, Memory};
 use dp_command::{CommandName, Continuation, Line, write_line};
-use dp_value::{Bytes, Items, Memory};
 use std::alloc::Global;
 
 /// What a reference stands for: a context of a frame, or the entries of an array in it, by its full name.

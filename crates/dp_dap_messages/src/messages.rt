@@ -10,7 +10,7 @@ ghost use Rattle.dp_dap_messages.specs.Values as values;
 
 use crate::effects::{Refusal, StopReason};
 use dp_bodies::{DapRequest, json_text};
-use dp_value::Memory;
+use dp_bytes::Memory;
 use serde_json::{Value, json};
 use std::alloc::Global;
 

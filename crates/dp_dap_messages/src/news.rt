@@ -11,7 +11,7 @@ ghost use Rattle.dp_dap_messages.specs.Messages.{HasNoFloat};
 use crate::effects::{News, Refusal};
 use crate::messages::{event, exited_body, output_body, refused, stopped_body, success};
 use dp_bodies::{DapRequest, message_text};
-use dp_value::{Bytes, Memory};
+use dp_bytes::{Bytes, Memory};
 use serde_json::Value;
 use std::alloc::Global;
 

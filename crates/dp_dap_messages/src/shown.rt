@@ -8,9 +8,9 @@ ghost use Rattle.dp_dap_messages.specs.Values as spec;
 
 use crate::lines::Place;
 use crate::messages::php;
+use dp_bytes::{Bytes, Memory};
 use dp_file_uris::decoded;
 use dp_packet::{Property, Shape, StackLine};
-use dp_value::{Bytes, Memory};
 use serde_json::{Value, json};
 use std::alloc::Global;
 

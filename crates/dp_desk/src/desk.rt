@@ -15,8 +15,8 @@ ghost use Rattle.dp_desk.specs.Desks.{held_after, Called, Dismissed, IsNew, IsTw
 use crate::held::{Held, Shares};
 use crate::turns::{Both, Count, InOneOrder, Look, PutBack, Take, Twin, View};
 use atomic_table::{Refused, Seat, Table};
+use dp_bytes::Memory;
 use dp_registry::{Pass, Refusal, Registry};
-use dp_value::Memory;
 use std::alloc::Global;
 use std::marker::Model;
 use std::sync::Wait;

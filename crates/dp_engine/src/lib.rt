@@ -19,8 +19,8 @@ mod texts;
 mod turns;
 mod writes;
 
+pub use dp_bytes::Memory;
 pub use dp_step::Steps;
-pub use dp_value::Memory;
 pub use laws::stops_are_moments;
 pub use metered::Metered;
 pub use moves::{go_on_from, pass_one};

@@ -2,9 +2,9 @@
 ghost use Rattle.std.specs.Prelude.{◌≡◌};
 
 use crate::session::{Answer, Session, SessionEnd};
+use dp_bytes::Memory;
 use dp_conversation::Responder;
 use dp_step::Steps;
-use dp_value::Memory;
 use std::alloc::Global;
 use std::marker::Model;
 use std::sync::ledger::Ledger;

@@ -13,11 +13,11 @@ use crate::past::{MOST_LINES, due_by, go_on, lines_of, look};
 use crate::reached::{Passed, Reached};
 use crate::stops::is_stop;
 use dp_break::{Breakpoint, Breaks};
+use dp_bytes::Memory;
 use dp_command::Continuation;
 use dp_state::{Moment, State};
 use dp_step::{Machine, Progress, Steps};
 use dp_tree::Bundle;
-use dp_value::Memory;
 use std::sync::ledger::Ledger;
 
 /// Counts the hits of a moment, and says whether the program stops at it.

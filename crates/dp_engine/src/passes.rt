@@ -15,9 +15,9 @@ use crate::refusals::read_command;
 use crate::replies::tell_status;
 use crate::session::{Answer, Session, give, line_in};
 use crate::states::{Phase, Position};
+use dp_bytes::Memory;
 use dp_command::{Addressee, CommandError, Continuation, Line, Request, SessionRequest};
 use dp_step::Steps;
-use dp_value::Memory;
 use std::sync::ledger::Ledger;
 
 /// A continuation on its way: which it is, the depth from which it went on, and how much of the program's output was

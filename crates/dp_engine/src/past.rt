@@ -11,10 +11,10 @@ ghost use Rattle.dp_tree.specs.declared.bundle.Bundle.{Bundle as SomeBundle};
 
 use dp_analysis::DeepNames;
 use dp_break::{Breakpoint, Breaks, is_of_function};
+use dp_bytes::Memory;
 use dp_command::Continuation;
 use dp_step::{Machine, Progress, Steps};
 use dp_tree::Bundle;
-use dp_value::Memory;
 use std::sync::ledger::Ledger;
 
 /// At most so many breakpoints on lines are looked for in statements.

@@ -16,10 +16,10 @@ use crate::responses;
 use crate::session::SessionEnd;
 use crate::states::Position;
 use dp_break::Answered;
+use dp_bytes::{Bytes, Memory};
 use dp_command::{Addressee, CommandName};
 use dp_features::{Feature, Features};
 use dp_packet::{ErrorCode, Notify, Packet, Response, text_of};
-use dp_value::{Bytes, Memory};
 use std::alloc::Global;
 
 /// What one command tells, and how it has ended its session, if it has.

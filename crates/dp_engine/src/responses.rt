@@ -6,9 +6,9 @@ ghost use Rattle.dp_packet.specs.Parts.{flag as flag_text};
 ghost use Rattle.dp_engine.specs.Responses as spec;
 ghost use Rattle.dp_engine.specs.inner.Sizes.{Fits};
 
+use dp_bytes::{Bytes, Items, Memory};
 use dp_command::Addressee;
 use dp_packet::{Body, ErrorCode, Packet, Response, text_of};
-use dp_value::{Bytes, Items, Memory};
 use std::alloc::Global;
 
 /// An attribute of this name and value, both copied.

@@ -9,11 +9,11 @@ ghost use Rattle.dp_engine.specs.Session.{opening};
 
 use crate::metered::Metered;
 use crate::session::{Session, SessionEnd};
+use dp_bytes::Bytes;
 use dp_conversation::{Fault, SessionOver, converse, put_unless_empty};
 use dp_outside::{Sink, Source};
 use dp_state::Outcome;
 use dp_step::Steps;
-use dp_value::Bytes;
 use std::alloc::Global;
 use std::sync::ledger::Ledger;
 

@@ -7,9 +7,9 @@ ghost use Rattle.dp_wire.specs.Frames.{IsPacketText};
 ghost use Rattle.dp_engine.specs.Answers as spec;
 ghost use Rattle.dp_engine.specs.Responses.{stream_size, streams};
 
+use dp_bytes::{Bytes, Items, Memory};
 use dp_command::StreamMode;
 use dp_packet::{Packet, text_of};
-use dp_value::{Bytes, Items, Memory};
 use std::alloc::Global;
 
 /// So many bytes of output stand in one packet.

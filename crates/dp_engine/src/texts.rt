@@ -5,9 +5,9 @@ ghost use Rattle.dp_wire.specs.Frames.{IsPacketText, command_limit};
 ghost use Rattle.dp_engine.specs.Responses as spec;
 
 use crate::responses;
+use dp_bytes::{Bytes, Memory};
 use dp_command::Addressee;
 use dp_packet::ErrorCode;
-use dp_value::{Bytes, Memory};
 use std::alloc::Global;
 
 /// The text of a response to a command that tells a status and its reason, such as `starting` and `ok`.

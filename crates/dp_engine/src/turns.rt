@@ -14,6 +14,7 @@ use crate::session::{Session, SessionEnd};
 use crate::states::{Phase, Position};
 use crate::writes::accept;
 use dp_break::{BreakError, Wishes, answer_breakpoints};
+use dp_bytes::Memory;
 use dp_command::{
     Addressee, BreakpointRequest, CommandError, Continuation, Finish, Line, LookRequest, Request,
     SessionRequest, Stream, StreamMode, WriteRequest,
@@ -21,7 +22,6 @@ use dp_command::{
 use dp_features::{Features, Setting};
 use dp_packet::ErrorCode;
 use dp_step::Steps;
-use dp_value::Memory;
 use dp_view_commands::{ViewError, view_response};
 use std::alloc::Global;
 use std::sync::ledger::Ledger;

@@ -3,6 +3,7 @@ ghost use Rattle.std.specs.Prelude.{◌≡◌, ◌∷◌, ◌++◌, ◌<◌, [],
 ghost use Rattle.dp_engine.specs.inner.KeptWrites.{Accepts};
 ghost use Rattle.dp_write_commands.specs.Results.{IsSent};
 
+use dp_bytes::Memory;
 use dp_command::{Addressee, WriteRequest};
 use dp_features::Features;
 use dp_meaning::NumberedWrite;
@@ -10,7 +11,7 @@ use dp_packet::Response;
 use dp_state::State;
 use dp_step::evaluation;
 use dp_tree::{Bundle, Expression};
-use dp_value::{Memory, Value};
+use dp_value::Value;
 use dp_view_commands::ViewError;
 use dp_write_commands::{Evaluator, Written, write_response};
 use std::alloc::Global;

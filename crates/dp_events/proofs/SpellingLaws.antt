@@ -7,7 +7,7 @@ use Rattle.std.proofs.lemmas.Slice.Eq.{bytes_eq-Decides}
 use Rattle.std.specs.Str.{bytes_eq}
 use Rattle.dp_outside.specs.Names.{host_limit, is_name, key_limit}
 use Rattle.dp_outside.proofs.NameLaws.{name_again, name_is}
-use Rattle.dp_value.specs.Decimals.{decimal_in}
+use Rattle.dp_bytes.specs.Decimals.{decimal_in}
 use Rattle.dp_grammar.specs.Lines.{has_no_blank}
 use Rattle.dp_events.specs.declared.event.Act.{Act}
 use Rattle.dp_events.specs.declared.event.Act.TheVariants.{Ide, Engine, Give, Move, Close}

@@ -1,6 +1,6 @@
 //! The events of a list.
 
-use dp_value::Bytes;
+use dp_bytes::Bytes;
 
 /// What happens on a link.
 #[derive(Debug, Drop)]

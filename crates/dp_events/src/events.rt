@@ -6,7 +6,7 @@ ghost use Rattle.dp_events.specs.inner.Progress.{IsReading};
 use crate::errors::ListError;
 use crate::event::Event;
 use crate::readers::Reading;
-use dp_value::Memory;
+use dp_bytes::Memory;
 use std::alloc::Global;
 use std::marker::Model;
 

@@ -2,7 +2,7 @@
 ghost use Rattle.std.specs.Prelude.{◌≡◌, ◌<◌, ◌∷◌, length, IfOk, MatchOption, option_map};
 ghost use Rattle.dp_events.specs.inner.Spelling as spec;
 
-use dp_value::Memory;
+use dp_bytes::Memory;
 use std::alloc::Global;
 
 /// The number of a hexadecimal digit, `0` to `9` or `a` to `f`; none for any other byte.

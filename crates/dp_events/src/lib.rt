@@ -9,7 +9,7 @@ mod readers;
 mod soak;
 mod spelling;
 
-pub use dp_value::Memory;
+pub use dp_bytes::Memory;
 pub use errors::ListError;
 pub use event::{Act, Event};
 pub use events::Events;

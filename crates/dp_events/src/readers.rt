@@ -7,7 +7,7 @@ ghost use Rattle.dp_events.specs.inner.Progress.{IsReading, IsTable, Marks, Take
 use crate::event::{Act, Event};
 use crate::events::Events;
 use crate::spelling::spelled;
-use dp_value::Memory;
+use dp_bytes::Memory;
 use indexmap::IndexMap;
 use std::alloc::Global;
 

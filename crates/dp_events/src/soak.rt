@@ -4,7 +4,7 @@ ghost use Rattle.dp_events.specs.Soak as spec;
 
 use crate::event::{Act, Event};
 use crate::events::Events;
-use dp_value::{Bytes, Memory};
+use dp_bytes::{Bytes, Memory};
 use std::alloc::Global;
 
 /// The largest count of a `move`: all that an engine has sent.

@@ -1,14 +1,14 @@
 //! The event that a line spells.
 ghost use Rattle.std.specs.Prelude.{◌≡◌, [], ◌∷◌, ◌++◌, ◌<◌, length, IfOk, IfSome, option_map};
 ghost use Rattle.dp_outside.specs.Names.{host_limit, key_limit};
-ghost use Rattle.dp_value.specs.Decimals.{decimal_in};
+ghost use Rattle.dp_bytes.specs.Decimals.{decimal_in};
 ghost use Rattle.std.specs.Option.{option_copied};
 ghost use Rattle.dp_events.specs.inner.Spelling as spec;
 
 use crate::event::{Act, Event};
 use crate::hex::bytes_in;
+use dp_bytes::{Bytes, Memory, decimal};
 use dp_outside::{HOST_LIMIT, KEY_LIMIT, is_name};
-use dp_value::{Bytes, Memory, decimal};
 use std::alloc::Global;
 
 /// The greatest number of a link.

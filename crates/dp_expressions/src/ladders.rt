@@ -13,9 +13,9 @@ use crate::nodes::chained;
 use crate::operand::Part;
 use crate::rank::Rank;
 use crate::token_values::{is_single, operator, operator_in};
+use dp_bytes::Items;
 use dp_token_rules::{Refusal, Tokens, none, with};
 use dp_tree::{Expression, Link};
-use dp_value::Items;
 use std::alloc::Global;
 use std::ops::ControlFlow;
 

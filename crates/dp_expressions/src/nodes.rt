@@ -5,8 +5,8 @@ ghost use Rattle.dp_expressions.specs.Grammar as grammar;
 ghost use Rattle.dp_expressions.specs.inner.Readers as spec;
 
 use crate::operand::{Assignment, Operand};
+use dp_bytes::{Bytes, Items, Memory};
 use dp_tree::{Boxed, Expression, Inclusion, Link, Place, UnaryOp};
-use dp_value::{Bytes, Items, Memory};
 use std::alloc::Global;
 
 /// A place of its parts.

@@ -10,9 +10,9 @@ use crate::inside::Inside;
 use crate::kept::both;
 use crate::nodes::named;
 use crate::operand::{Operand, Part};
+use dp_bytes::Items;
 use dp_token_rules::{Refusal, Terminal, Tokens, Word, none, with};
 use dp_tree::Expression;
-use dp_value::Items;
 use std::alloc::Global;
 use std::ops::ControlFlow;
 

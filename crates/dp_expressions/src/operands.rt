@@ -12,9 +12,9 @@ use crate::nodes::{indexed, tree_of, unary};
 use crate::operand::{Operand, Part};
 use crate::pieces::{Below, Entry, PlaceBelow};
 use crate::token_values::{constant, names_constant, prefix, prefix_in, step, step_in};
+use dp_bytes::Bytes;
 use dp_token_rules::{Refusal, Terminal, Tokens, Word, any_items, some_items};
 use dp_tree::{Expression, Item, Order, Place};
-use dp_value::Bytes;
 use std::alloc::Global;
 
 impl<R: Inside> Grammar<R> {

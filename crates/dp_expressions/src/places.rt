@@ -10,9 +10,9 @@ use crate::inside::Inside;
 use crate::kept::both;
 use crate::operand::Part;
 use crate::pieces::{Below, Index};
+use dp_bytes::Items;
 use dp_token_rules::{Refusal, Terminal, Tokens, Word, many};
 use dp_tree::{Expression, Place};
-use dp_value::Items;
 use std::alloc::Global;
 
 impl<R: Inside> Grammar<R> {

@@ -3,7 +3,7 @@
 use Rattle.std.specs.Prelude.{◌≤◌, ℕ, ◌==◌, nat_le, Bool, not, ◌&&◌, List, [], ◌∷◌, Option, Some, None, IfSome, if◌then◌else◌, option_map, option_and_then, codes, decimal}
 use Rattle.std.specs.List.{find}
 use Rattle.std.specs.Str.{bytes_eq}
-use Rattle.dp_value.specs.Decimals.{decimal_in}
+use Rattle.dp_bytes.specs.Decimals.{decimal_in}
 use Rattle.dp_features.specs.declared.feature.Feature.{Feature}
 use Rattle.dp_features.specs.declared.feature.Feature.TheVariants.{LanguageSupportsThreads, LanguageName, LanguageVersion, Encoding, ProtocolVersion, SupportsAsync, DataEncoding, BreakpointLanguages, BreakpointTypes, MultipleSessions, MaxChildren, MaxData, MaxDepth, ShowHidden, NotifyOk, ResolvedBreakpoints, SupportsPostmortem}
 

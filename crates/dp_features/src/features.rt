@@ -4,7 +4,7 @@ ghost use Rattle.dp_features.specs.Features as spec;
 
 use crate::feature::Feature;
 use crate::setting::Setting;
-use dp_value::{Bytes, Memory};
+use dp_bytes::{Bytes, Memory};
 use std::alloc::Global;
 use std::marker::Model;
 

@@ -5,7 +5,7 @@ mod feature;
 mod features;
 mod setting;
 
-pub use dp_value::Memory;
+pub use dp_bytes::Memory;
 pub use feature::Feature;
 pub use features::Features;
 pub use setting::Setting;

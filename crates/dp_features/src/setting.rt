@@ -3,7 +3,7 @@ ghost use Rattle.std.specs.Prelude.{◌≡◌, ◌≤◌, IfSome};
 ghost use Rattle.dp_features.specs.Features as spec;
 
 use crate::feature::Feature;
-use dp_value::decimal;
+use dp_bytes::decimal;
 use std::marker::Model;
 
 /// A feature that can be set, and the number of a value that it can have. It is in the feature's

@@ -5,7 +5,7 @@ use Rattle.std.specs.Str.{bytes_eq}
 use Rattle.std.proofs.lemmas.List.Quantifiers.{position-Some}
 use Rattle.dp_tree.specs.declared.bundle.Bundle.{Bundle}
 use Rattle.dp_tree.specs.declared.bundle.BundleFile.{BundleFile}
-use Rattle.dp_value.specs.Names.{without_slash}
+use Rattle.dp_bytes.specs.Names.{without_slash}
 use Rattle.dp_file_uris.specs.Files.{file_like}
 
 found_below : (name : List ℕ) (files : List BundleFile) (number : ℕ)

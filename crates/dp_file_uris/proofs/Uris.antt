@@ -4,6 +4,7 @@ use Rattle.std.specs.Prelude.{All, codes, position}
 use Rattle.std.specs.List.{AllByRecursion, IsDistinct, position_from, starts_with}
 use Rattle.std.specs.Str.{bytes_eq}
 use Rattle.std.proofs.lemmas.Bool.{eqb-true}
+use Rattle.std.proofs.lemmas.Slice.Eq.{bytes_eq-Decides}
 use Rattle.std.proofs.lemmas.Iterator.Adapters.{position_from-zero}
 use Rattle.std.proofs.lemmas.Map.Keys.{IsDistinct-head, IsDistinct-tail}
 use Rattle.percent_encoding.specs.Percent.{percent_decode}
@@ -13,9 +14,7 @@ use Rattle.dp_packet.proofs.UriLaws.{IsByte, same_bytes, small_rest}
 use Rattle.dp_tree.specs.declared.bundle.Bundle.{Bundle}
 use Rattle.dp_tree.specs.declared.bundle.BundleFile.{BundleFile}
 use Rattle.dp_tree.specs.FileNames.{AreFileNames}
-use Rattle.dp_value.specs.declared.key.Key.TheVariants.{Text}
-use Rattle.dp_value.specs.Names.{without_slash}
-use Rattle.dp_value.proofs.KeyLemmas.{key_eq_equivalence}
+use Rattle.dp_bytes.specs.Names.{without_slash}
 use Rattle.dp_file_uris.specs.Files.{file_like, name_in, requested_file}
 
 -- ---- names
@@ -58,7 +57,7 @@ placed (f ∷ files) k zero file apart at =
     let same : f ≡ file = cc in
     let here : bytes_eq (without_slash f.name) (without_slash file.name) ≡ true =
     subst (λ (g : BundleFile). bytes_eq (without_slash f.name) (without_slash g.name) ≡ true) same
-    (key_eq_equivalence.refl (Text (without_slash f.name))) in
+    ((bytes_eq-Decides (without_slash f.name) (without_slash f.name)).1 refl) in
     let none : k ≡ k + 0 = omega arith in
     ap (λ b. cond b (Some k) (position_from (λ f. bytes_eq (without_slash f.name) (without_slash file.name))
     (k + 1) files)) here ∙ ap (λ m. Some m) none

@@ -4,8 +4,8 @@ ghost use Rattle.std.specs.Prelude.{◌≡◌, ◌<◌, ◌⊎◌, true, length,
 ghost use Rattle.dp_file_uris.specs.Files as spec;
 ghost use Rattle.percent_encoding.specs.Percent.{percent_decode as decoded_path};
 
+use dp_bytes::{Bytes, Memory, are_alike};
 use dp_tree::Bundle;
-use dp_value::{Bytes, Memory, are_alike};
 use percent_encoding::percent_decode;
 use std::alloc::Global;
 

@@ -5,6 +5,6 @@
 mod files;
 mod laws;
 
-pub use dp_value::Memory;
+pub use dp_bytes::Memory;
 pub use files::{decoded, requested_file};
 pub use laws::file_uris_are_read_back;

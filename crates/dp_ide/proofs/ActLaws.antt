@@ -8,7 +8,7 @@ use Rattle.dp_grammar.specs.Parts.{Part, Mark, ◌>>◌}
 use Rattle.dp_command.specs.Letters as letter
 use Rattle.dp_command.specs.Options.{given}
 use Rattle.dp_reply.specs.Contents.{most_16}
-use Rattle.dp_value.specs.Decimals.{decimal_in}
+use Rattle.dp_bytes.specs.Decimals.{decimal_in}
 use Rattle.dp_wire.specs.Frames.{IsCommand, has_no_nul}
 use Rattle.dp_wire.proofs.FrameLaws.{no_nul-at}
 use Rattle.dp_ide.specs.declared.instruction.Act.{Act}

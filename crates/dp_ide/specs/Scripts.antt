@@ -10,7 +10,7 @@ use Rattle.dp_grammar.specs.Parts.{Part, ◌>>◌, Mark, Repeated}
 use Rattle.dp_grammar.specs.Prefixes.{◌>>=◌}
 use Rattle.dp_grammar.specs.Texts.{hexadecimal_behind}
 use Rattle.dp_reply.specs.Contents.{most_16}
-use Rattle.dp_value.specs.Decimals.{decimal_in}
+use Rattle.dp_bytes.specs.Decimals.{decimal_in}
 use Rattle.dp_wire.specs.Frames.{IsCommand}
 use Rattle.dp_ide.specs.declared.instruction.Act.{Act}
 use Rattle.dp_ide.specs.declared.instruction.Act.TheVariants.{Send, Attr, Code, Prop, Out, Print}

@@ -7,8 +7,8 @@ ghost use Rattle.dp_ide.specs.inner.Readers.{IsNamed, Reads};
 use crate::instruction::Act;
 use crate::lines::{behind, run_before};
 use crate::texts::{number_in, text_behind};
+use dp_bytes::{Bytes, Memory};
 use dp_command::{LineError, option_value, read_line};
-use dp_value::{Bytes, Memory};
 use dp_wire::COMMAND_LIMIT;
 use std::alloc::Global;
 

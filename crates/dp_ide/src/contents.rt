@@ -4,9 +4,9 @@ ghost use Rattle.std.specs.Option.{option_copied, option_map};
 ghost use Rattle.dp_ide.specs.Messages as spec;
 ghost use Rattle.dp_markup.specs.Grammar.{value_of};
 
+use dp_bytes::{Bytes, Memory};
 use dp_markup::{Element, same_text};
 use dp_packet::{Body, Packet, Property, Shape};
-use dp_value::{Bytes, Memory};
 use std::alloc::Global;
 
 /// The value of the first of these attributes that has this name.

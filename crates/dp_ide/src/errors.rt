@@ -1,6 +1,6 @@
 //! Why a script was not read, or not played to its end.
 
-use dp_value::Bytes;
+use dp_bytes::Bytes;
 use std::alloc::{AllocError, AllocFailed};
 use thiserror::Error;
 

@@ -1,6 +1,6 @@
 //! The instructions of a script.
 
-use dp_value::Bytes;
+use dp_bytes::Bytes;
 
 /// What an instruction asks for.
 #[derive(Debug, Drop)]

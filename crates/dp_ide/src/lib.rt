@@ -14,7 +14,7 @@ mod script;
 mod texts;
 mod waits;
 
-pub use dp_value::Memory;
+pub use dp_bytes::Memory;
 pub use errors::IdeError;
 pub use instruction::{Act, Instruction};
 pub use laws::{one_end, one_message};

@@ -9,7 +9,7 @@ use crate::errors::IdeError;
 use crate::instruction::Instruction;
 use crate::lines::is_idle;
 use crate::script::Script;
-use dp_value::{Items, Memory};
+use dp_bytes::{Items, Memory};
 use std::alloc::Global;
 
 /// Puts what the line of this number says behind what the lines before it say, where it is one of a script.

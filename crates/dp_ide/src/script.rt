@@ -1,7 +1,7 @@
 //! A script.
 
 use crate::instruction::Instruction;
-use dp_value::Items;
+use dp_bytes::Items;
 use std::marker::Model;
 
 /// A script of an IDE. Contracts see the list of its instructions, which some bytes spell.

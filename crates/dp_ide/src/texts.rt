@@ -1,14 +1,14 @@
 //! Names, texts and numbers in a line.
 ghost use Rattle.std.specs.Prelude.{◌≡◌, ◌≤◌, IfOk, IfSome, option_map};
 ghost use Rattle.dp_reply.specs.Contents.{most_16};
-ghost use Rattle.dp_value.specs.Decimals.{decimal_in};
+ghost use Rattle.dp_bytes.specs.Decimals.{decimal_in};
 ghost use Rattle.dp_ide.specs.Scripts.{Behind, Text};
 ghost use Rattle.dp_ide.specs.Scripts as script;
 ghost use Rattle.dp_ide.specs.inner.Readers as spec;
 ghost use Rattle.dp_ide.specs.inner.Readers.{Reads};
 
 use crate::lines::behind;
-use dp_value::{Bytes, Memory, decimal};
+use dp_bytes::{Bytes, Memory, decimal};
 use std::alloc::Global;
 
 /// The number that a hexadecimal digit of either case is.

@@ -7,7 +7,7 @@ use Rattle.std.proofs.lemmas.Str.Parse.{IsNumeralModel, numerals_by_value}
 use Rattle.std.specs.Char.{is_ascii_digit}
 use Rattle.std.specs.List.{list_all}
 use Rattle.std.specs.Str.Parse.{digits_value}
-use Rattle.dp_value.specs.IntText.{is_positive}
+use Rattle.dp_bytes.specs.IntText.{is_positive}
 
 abbrev pub Digits : List ℕ → Type 0
 Digits ds = list_all is_ascii_digit ds ≡ true

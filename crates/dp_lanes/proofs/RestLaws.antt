@@ -7,7 +7,7 @@ use Rattle.std.proofs.lemmas.List.{take_at, drop_all, take-append-drop, length-t
 use Rattle.std.proofs.lemmas.Str.Parse.{digits_value-take-le}
 use Rattle.std.proofs.Math.Seq.{drop-append-add}
 use Rattle.std.specs.Str.Parse.{digits_value}
-use Rattle.dp_value.specs.IntText.{is_positive}
+use Rattle.dp_bytes.specs.IntText.{is_positive}
 use Rattle.dp_wire.specs.Frames.{has_no_nul, up_to_nul, IsCommand, command_frame, command_limit, IsPartialCommand, BeginsNoCommand}
 use Rattle.dp_wire.specs.Frames.{IsPacketText, packet_frame, packet_limit, IsPartialPacket, BeginsPacket, BeginsNoPacket}
 use Rattle.dp_wire.proofs.FrameLaws.{no_nul-head, no_nul-tail, no_nul-here, same_text, partial_front}

@@ -3,7 +3,7 @@
 use Rattle.std.specs.Prelude.{ℕ, ◌+◌, ◌==◌, nat_le, Bool, true, not, ◌&&◌}
 use Rattle.std.specs.Prelude.{List, [], ◌∷◌, length, drop}
 use Rattle.std.specs.Str.Parse.{digits_value}
-use Rattle.dp_value.specs.IntText.{is_positive}
+use Rattle.dp_bytes.specs.IntText.{is_positive}
 use Rattle.dp_wire.specs.Frames.{up_to_nul}
 use Rattle.dp_wire.specs.Frames.{command_frame, commands_in, rest_of, command_limit}
 use Rattle.dp_wire.specs.Frames.{packet_frame, packets_in, rest_of_packets}

@@ -3,7 +3,7 @@ ghost use Rattle.std.specs.Prelude.{◌≡◌, length, IfOk};
 ghost use Rattle.dp_lanes.specs.Lanes.{texts_in};
 
 use crate::lane::{Lane, LaneKind};
-use dp_value::Memory;
+use dp_bytes::Memory;
 use std::alloc::Global;
 
 /// How many whole frames of this kind the bytes begin with. Takes memory for a copy of them.

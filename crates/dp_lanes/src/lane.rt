@@ -6,7 +6,7 @@ ghost use Rattle.dp_lanes.specs.Lanes.{frame, texts_in};
 ghost use Rattle.dp_lanes.specs.Places.{BeginsWith, IsPart, BeginsNone, Causes, IsFront, kind_of};
 ghost use Rattle.dp_lanes.specs.Places.{lane_piece_limit, most_held, received_in};
 
-use dp_value::Memory;
+use dp_bytes::Memory;
 use dp_wire::{Commands, Packets, WireError};
 use std::alloc::Global;
 use std::ops::Range;

@@ -7,7 +7,7 @@ mod laws;
 mod moves;
 
 pub use counts::count_frames;
-pub use dp_value::Memory;
+pub use dp_bytes::Memory;
 pub use lane::{Lane, LaneKind, PIECE_LIMIT};
 pub use laws::{
     bad_commands_stay_bad, dropped_has_passed, fed_has_passed, front_of_frames_is_good,

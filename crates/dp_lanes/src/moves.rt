@@ -5,7 +5,7 @@ ghost use Rattle.dp_lanes.specs.Places.{Carries, Follows, IsBadPlace};
 ghost use Rattle.dp_lanes.specs.inner.Deliveries.{HandsAll};
 
 use crate::lane::Lane;
-use dp_value::Memory;
+use dp_bytes::Memory;
 use std::alloc::Global;
 
 /// Hands out each whole frame that is held: puts it behind `out`.

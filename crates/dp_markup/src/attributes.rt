@@ -9,8 +9,8 @@ use crate::found::Found;
 use crate::input::Input;
 use crate::lists::Growing;
 use crate::states::{StartTag, Tag};
+use dp_bytes::Bytes;
 use dp_grammar::Refusal;
-use dp_value::Bytes;
 use std::alloc::Global;
 use std::ops::ControlFlow;
 

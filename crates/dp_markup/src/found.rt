@@ -4,7 +4,7 @@ ghost use Rattle.std.specs.Prelude.{◌≡◌, ◌++◌, ◌∷◌, [], true, If
 ghost use Rattle.dp_markup.specs.Grammar.{is_new};
 
 use crate::Memory;
-use dp_value::{Bytes, Items};
+use dp_bytes::{Bytes, Items};
 use indexmap::IndexMap;
 use std::alloc::Global;
 use std::marker::Model;

@@ -19,7 +19,7 @@ mod tree;
 mod writer;
 
 pub use attributes::same_text;
-pub use dp_value::Memory;
+pub use dp_bytes::Memory;
 pub use errors::MarkupError;
 pub use outputs::{Counter, Output, TextOutput, put_attribute, put_escaped};
 pub use reader::{head_attribute, level_limit, read, reread};

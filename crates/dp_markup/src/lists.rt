@@ -3,7 +3,7 @@
 ghost use Rattle.std.specs.Prelude.{◌≡◌, ◌++◌, ◌∷◌, [], ◌==◌, length, OnOk};
 
 use crate::Memory;
-use dp_value::{Bytes, Items};
+use dp_bytes::{Bytes, Items};
 use std::alloc::Global;
 use std::marker::Model;
 

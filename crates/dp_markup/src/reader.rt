@@ -15,8 +15,8 @@ use crate::input::Input;
 use crate::sought::sought_head;
 use crate::tree::Element;
 use crate::writer::write;
+use dp_bytes::Bytes;
 use dp_grammar::Refusal;
-use dp_value::Bytes;
 use std::alloc::Global;
 
 /// At most so many elements are open at a place of what is read: 64.

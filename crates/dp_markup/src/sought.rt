@@ -9,8 +9,8 @@ use crate::attributes::{same_text, sees_end, spaced_mark, spaced_value};
 use crate::documents::prolog;
 use crate::input::Input;
 use crate::kept_names::{Name, Names};
+use dp_bytes::Bytes;
 use dp_grammar::Refusal;
-use dp_value::Bytes;
 use std::alloc::Global;
 use std::ops::ControlFlow;
 

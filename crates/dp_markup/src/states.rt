@@ -3,7 +3,7 @@
 use crate::found::Found;
 use crate::lists::Growing;
 use crate::tree::Node;
-use dp_value::{Bytes, Items};
+use dp_bytes::{Bytes, Items};
 
 /// How far a start tag has been read: its attributes so far, and whether white space came last.
 #[derive(Debug, Drop)]

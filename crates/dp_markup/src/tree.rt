@@ -1,6 +1,6 @@
 //! Trees of elements.
 
-use dp_value::{Bytes, Items};
+use dp_bytes::{Bytes, Items};
 
 /// An element: its name, its attributes as pairs of a name and a value, and what stands between
 /// its tags.

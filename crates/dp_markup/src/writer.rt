@@ -8,7 +8,7 @@ ghost use Rattle.dp_markup.specs.Texts.{attribute_text, element_text, node_text,
 use crate::Memory;
 use crate::outputs::{Output, TextOutput, put_attribute, put_escaped};
 use crate::tree::{Element, Node};
-use dp_value::Bytes;
+use dp_bytes::Bytes;
 use std::alloc::Global;
 
 /// The canonical text of an element, without a declaration: one start tag and one end tag for each

@@ -9,9 +9,10 @@ use dp_actions::{
     step_variable, then_assign, then_combine, then_missing, then_put_place, then_put_step,
     then_step,
 };
+use dp_bytes::Bytes;
 use dp_state::State;
 use dp_tree::{BinaryOp, Expression, Order, Place, UnaryOp};
-use dp_value::{Bytes, Value};
+use dp_value::Value;
 
 impl<O: Outside> Evaluator<'_, O> {
     ghost use Rattle.std.specs.Prelude.{[], false, map};

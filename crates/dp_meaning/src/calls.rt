@@ -8,9 +8,10 @@ use dp_actions::{
     Callee, Halt, Signal, enter_call, enter_file, fatal, file_named_by, look_up, native_call,
     not_included, returned, statements_of,
 };
+use dp_bytes::{Bytes, Items};
 use dp_state::{FatalKind, MomentKind, State};
 use dp_tree::{Expression, Function, Inclusion, Native};
-use dp_value::{Bytes, Items, Value};
+use dp_value::Value;
 
 impl<O: Outside> Evaluator<'_, O> {
     ghost use Rattle.std.specs.Prelude.{◌+◌, ◌<◌, Some};

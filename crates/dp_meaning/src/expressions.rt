@@ -8,9 +8,10 @@ use dp_actions::{
     Halt, Reading, constant_value, integer, text_value, then_holds, then_unary, truth,
     variable_value,
 };
+use dp_bytes::Items;
 use dp_state::State;
 use dp_tree::{Expression, Inclusion};
-use dp_value::{Items, Value};
+use dp_value::Value;
 
 impl<O: Outside> Evaluator<'_, O> {
     ghost use Rattle.dp_meaning.specs.inner.Drive.{Evaluates};

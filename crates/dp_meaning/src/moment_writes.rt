@@ -12,9 +12,10 @@ use crate::evaluator::Evaluator;
 use crate::pure::Unwatched;
 use crate::writes::{NumberedWrite, Write};
 use dp_actions::{Halt, given_keys};
+use dp_bytes::{Bytes, Memory};
 use dp_state::{FRAME_LIMIT, Fault, Path, State};
 use dp_tree::{Bundle, Expression};
-use dp_value::{Bytes, Key, Memory, Value};
+use dp_value::{Key, Value};
 use std::alloc::Global;
 use std::mem;
 

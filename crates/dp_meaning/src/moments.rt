@@ -3,8 +3,8 @@
 ghost use Rattle.std.specs.Prelude.{◌≡◌, ◌^◌, ◌≤◌, ◌⊎◌, length, IfOk, IsSome, OnErr};
 ghost use Rattle.dp_meaning.specs.Trace.{function_called, function_of as name_of, moment_of as moment_at};
 
+use dp_bytes::{Bytes, Memory};
 use dp_state::{FrameKind, Moment, MomentKind, State};
-use dp_value::{Bytes, Memory};
 
 /// The moment that has come in a state. Memory is taken for the name of the function that is entered or left; `Memory`
 /// is answered also if the frames cannot be counted in 32 bits.

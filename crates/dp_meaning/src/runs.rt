@@ -14,9 +14,9 @@ use crate::outside::Outside;
 use crate::stop::Stop;
 use crate::writes::NumberedWrite;
 use dp_actions::{Halt, Signal, statements_of};
+use dp_bytes::Memory;
 use dp_state::{FRAME_LIMIT, Outcome, State};
 use dp_tree::Bundle;
-use dp_value::Memory;
 use std::alloc::Global;
 
 /// Runs a program, at whose moments these writes are made, up to the moment of a number and its writes, or to its end

@@ -5,9 +5,10 @@ ghost use Rattle.dp_tree.specs.Purity.{is_pure};
 ghost use Rattle.dp_meaning.specs.Pure.{IsValueIn};
 
 use dp_actions::{Halt, observe};
+use dp_bytes::Memory;
 use dp_state::State;
 use dp_tree::{Bundle, Expression};
-use dp_value::{Memory, Value};
+use dp_value::Value;
 use std::alloc::Global;
 
 /// The value of an expression without calls, assignments, `++`, `--` and includes in the top frame of a state, and

@@ -3,9 +3,10 @@
 use crate::evaluator::Evaluator;
 use crate::pure::Unwatched;
 use dp_actions::{Halt, Signal};
+use dp_bytes::Items;
 use dp_state::State;
 use dp_tree::{Binding, Bundle, Expression, Statement};
-use dp_value::{Items, Value};
+use dp_value::Value;
 use std::alloc::Global;
 
 /// What parts of a program go by that are run whole from a state: a run has at most `bound` moments, and at most

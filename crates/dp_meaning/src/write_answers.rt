@@ -13,9 +13,10 @@ ghost use Rattle.dp_meaning.specs.Writes.{value_answer, with_place};
 use crate::moment_writes::evaluation;
 use crate::writes::{Write, WriteAnswer};
 use dp_actions::given_keys;
+use dp_bytes::{Bytes, Memory};
 use dp_state::{Path, State};
 use dp_tree::{Bundle, Expression};
-use dp_value::{Bytes, Key, Memory, Value, WriteError, write_at};
+use dp_value::{Key, Value, WriteError, write_at};
 use std::alloc::Global;
 
 /// What a write gives in a state, which stays as it is: a place write copies the variable that it writes, an evaluation

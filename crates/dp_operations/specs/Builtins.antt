@@ -10,7 +10,7 @@ use Rattle.dp_tree.specs.declared.operators.Builtin.{Builtin}
 use Rattle.dp_tree.specs.declared.operators.Builtin.TheVariants.{StrLen, Ord, Count, ArrayKeys, ArrayValues, IntDiv, Chr, SubStr, StrRepeat, Implode, IsInt, IsString, IsBool, IsNull, IsArray}
 use Rattle.dp_value.specs.declared.value.Value.{Value}
 use Rattle.dp_value.specs.Data.{Data, data_of_key, null, boolean, integer, text, array, pairs_of}
-use Rattle.dp_value.specs.IntText.{is_in_64_bits}
+use Rattle.dp_bytes.specs.IntText.{is_in_64_bits}
 use Rattle.dp_value.specs.Table.{keys_of, values_of, weight_limit}
 use Rattle.dp_value.specs.Value.{data_of}
 use Rattle.dp_operations.specs.Lists.{list_of, light_array}

@@ -4,7 +4,7 @@ use Rattle.std.specs.Ordering.{int_eq}
 use Rattle.dp_value.specs.declared.errors.ValueError.{ValueError}
 use Rattle.dp_value.specs.declared.errors.ValueError.TheVariants.{Overflow, DivByZero, Unsupported}
 use Rattle.dp_value.specs.Data.{Data, null, boolean, integer, text, array}
-use Rattle.dp_value.specs.IntText.{is_in_64_bits}
+use Rattle.dp_bytes.specs.IntText.{is_in_64_bits}
 
 -- the integer that an operand stands for: a bool is 0 or 1 and null 0; a text and an array are none
 abbrev pub number_of : Data → Option ℤ

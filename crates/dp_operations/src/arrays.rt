@@ -9,7 +9,8 @@ ghost use Rattle.dp_operations.specs.Builtins.{count_of, on_one, single as one_o
 ghost use Rattle.dp_operations.specs.Lists.{light_array, list_of};
 
 use crate::arguments::single;
-use dp_value::{CallError, Memory, PhpArray, Value, ValueError};
+use dp_bytes::Memory;
+use dp_value::{CallError, PhpArray, Value, ValueError};
 use std::alloc::Global;
 
 /// The number of entries of an array.

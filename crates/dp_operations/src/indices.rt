@@ -8,7 +8,8 @@ ghost use Rattle.dp_operations.specs.Indices.{byte_at as byte_of, indexed};
 ghost use Rattle.dp_operations.specs.Indices.{letter_at as letter_of, looked_up, reading};
 ghost use Rattle.dp_operations.specs.Found.{data_of_found};
 
-use dp_value::{Memory, Text, Value, ValueError, key_of};
+use dp_bytes::{Memory, Text};
+use dp_value::{Value, ValueError, key_of};
 use std::alloc::Global;
 
 /// The value read under an index: of an array the one under its key, and null where there is none; of a text one byte;

@@ -13,7 +13,8 @@ ghost use Rattle.dp_operations.specs.Text.{text_of};
 use crate::arguments::double;
 use crate::arrays::values;
 use crate::texts::text_bytes;
-use dp_value::{CallError, Memory, Text, Value, WEIGHT_LIMIT};
+use dp_bytes::{Memory, Text};
+use dp_value::{CallError, Value, WEIGHT_LIMIT};
 use std::alloc::Global;
 
 /// A part of a text: from an offset on, a count of bytes or all.

@@ -7,7 +7,8 @@ ghost use Rattle.dp_operations.specs.Builtins.{byte_of, double as two_of, first_
 ghost use Rattle.dp_operations.specs.Builtins.{quotient_of, single as one_of, CallAnswers, CallGives};
 
 use crate::arguments::{double, single};
-use dp_value::{CallError, Text, Value};
+use dp_bytes::Text;
+use dp_value::{CallError, Value};
 use std::alloc::Global;
 
 /// The length of a text.

@@ -6,7 +6,8 @@ ghost use Rattle.dp_value.specs.Value.{data_of};
 ghost use Rattle.dp_operations.specs.Answers.{Answers};
 ghost use Rattle.dp_operations.specs.Text.{joined, text_of};
 
-use dp_value::{Memory, Text, Value, ValueError};
+use dp_bytes::{Memory, Text};
+use dp_value::{Value, ValueError, is_beyond};
 use std::alloc::Global;
 
 /// The text of a value: an integer in decimal, true as `1`, false and null as nothing, an array as
@@ -44,7 +45,7 @@ pub(crate) fn concat(alloc: Global, a: &Value, b: &Value) -> Result<Value, Value
 {
     let mut text = text_bytes(alloc, a)?;
     let rest = text_bytes(alloc, b)?;
-    if text.is_beyond(rest.as_slice()) {
+    if is_beyond(&text, rest.as_slice()) {
         return Err(ValueError::TooHeavy);
     }
     text.append(alloc, rest.as_slice())?;

@@ -9,7 +9,7 @@ use Rattle.std.specs.Cmp.Lexicographic.{pointwise}
 use Rattle.std.specs.List.{list_all}
 use Rattle.std.specs.Fmt.{signed_decimal}
 use Rattle.std.specs.Str.Parse.{digits_value, signed_digits_value}
-use Rattle.dp_value.specs.IntText.{is_positive, is_in_64_bits, is_int_form, int_of_text}
+use Rattle.dp_bytes.specs.IntText.{is_positive, is_in_64_bits, is_int_form, int_of_text}
 
 pub own : IsNumeralModel (λ ds. list_all is_ascii_digit ds ≡ true) (digits_value 10)
 own = numerals_by_value (λ ds. list_all is_ascii_digit ds ≡ true) (search rules)

@@ -16,7 +16,7 @@ use Rattle.dp_packet.specs.Packets.{element_of, message_node}
 use Rattle.dp_packet.specs.Parts.{Attributes, element, text_nodes, namespace}
 use Rattle.dp_packet.specs.Text.{declaration, text}
 use Rattle.dp_packet.specs.Uris.{stands_for_itself, hexadecimal, encoded, file_uri}
-use Rattle.dp_value.specs.Names.{without_slash}
+use Rattle.dp_bytes.specs.Names.{without_slash}
 
 append_short : (a b : List ℕ) (m n : ℕ) → length a ≤ m → length b ≤ n → length (a ++ b) ≤ m + n
 append_short a b m n p q = omega (arith, p, q, length-append a b)

@@ -9,7 +9,7 @@ use Rattle.percent_encoding.specs.AsciiSet.{should_percent_encode}
 use Rattle.percent_encoding.specs.Percent.{encode_byte, percent_encode, percent_encode_byte}
 use Rattle.dp_packet.specs.declared.uris.TheConstants.{ESCAPED}
 use Rattle.dp_packet.specs.Uris.{encoded}
-use Rattle.dp_value.specs.Names.{without_slash}
+use Rattle.dp_bytes.specs.Names.{without_slash}
 
 -- each byte, by computing
 abbrev alike : ℕ → Bool

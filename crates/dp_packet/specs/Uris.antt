@@ -1,6 +1,6 @@
 -- The URIs of files (RFC 8089), percent-encoded (RFC 3986, 2.1 to 2.3).
 use Rattle.std.specs.Prelude.{ℕ, ◌+◌, ◌/◌, ◌%◌, Bool, ◌&&◌, ◌||◌, ◌==◌, nat_le, nat_lt, if◌then◌else◌, [], ◌∷◌, ◌++◌, codes, flat_map}
-use Rattle.dp_value.specs.Names.{without_slash}
+use Rattle.dp_bytes.specs.Names.{without_slash}
 use Rattle.dp_packet.specs.Parts.{Text}
 
 -- what stands for itself: letters, digits, `-`, `.`, `_`, `~`, and `/` between the parts of a path

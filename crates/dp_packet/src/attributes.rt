@@ -7,8 +7,8 @@ ghost use Rattle.dp_packet.specs.Breakpoints.{given_number};
 ghost use Rattle.dp_packet.specs.Parts as spec;
 ghost use Rattle.dp_packet.specs.inner.Shown.{all_shown, shown_text};
 
+use dp_bytes::Bytes;
 use dp_markup::{Output, put_attribute, put_attributes};
-use dp_value::Bytes;
 use itoa::Buffer;
 
 /// The namespace of DBGp.

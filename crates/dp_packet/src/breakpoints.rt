@@ -7,8 +7,8 @@ ghost use Rattle.dp_packet.specs.Breakpoints as spec;
 use crate::attributes::{Attribute, flag};
 use crate::elements::{put_start, put_words};
 use crate::packet::{BreakKind, BreakLine, HitRule};
+use dp_bytes::Bytes;
 use dp_markup::{Output, put_close};
-use dp_value::Bytes;
 
 /// The name of a kind of breakpoint, as the attribute `type` has it.
 pub(crate) fn kind_name(kind: BreakKind) -> &'static [u8]

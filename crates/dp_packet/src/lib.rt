@@ -17,7 +17,7 @@ mod texts;
 mod uris;
 
 pub use attributes::flag;
-pub use dp_value::Memory;
+pub use dp_bytes::Memory;
 pub use error_codes::{ErrorCode, message};
 pub use faults::reason;
 pub use outputs::PacketOutput;

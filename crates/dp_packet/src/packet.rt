@@ -1,6 +1,6 @@
 //! Packets as typed values.
 use crate::property::Property;
-use dp_value::{Bytes, Items};
+use dp_bytes::{Bytes, Items};
 
 /// What an engine or a proxy sends.
 #[derive(Debug, Drop)]

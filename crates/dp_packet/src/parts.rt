@@ -2,7 +2,7 @@
 ghost use Rattle.std.specs.Prelude.{◌≡◌, ◌++◌, ◌∷◌, [], OnOk, OnErr};
 
 use crate::Memory;
-use dp_value::Bytes;
+use dp_bytes::Bytes;
 use std::alloc::Global;
 
 /// Puts an attribute behind the others. Its name and its value are copied. The only error is

@@ -1,5 +1,5 @@
 //! Properties as typed values.
-use dp_value::{Bytes, Items};
+use dp_bytes::{Bytes, Items};
 
 /// A property as a packet shows it: the value of a variable or of an array's entry, or of an
 /// evaluated expression.

@@ -12,8 +12,8 @@ use crate::faults::put_error;
 use crate::outputs::PacketOutput;
 use crate::packet::{Body, Response, StackLine};
 use crate::properties::put_properties;
+use dp_bytes::Bytes;
 use dp_markup::{Output, put_close, put_escaped};
-use dp_value::Bytes;
 
 /// Puts the element of a frame of the stack.
 fn put_stack<O: Output>(out: &mut O, line: &StackLine) -> Result<(), O::Error>

@@ -16,8 +16,8 @@ use crate::faults::{put_refusal, reason};
 use crate::outputs::PacketOutput;
 use crate::packet::{Body, BreakLine, Init, Notify, Packet, ProxyReply};
 use crate::responses::put_response;
+use dp_bytes::Bytes;
 use dp_markup::{Output, TextOutput, put_close};
-use dp_value::Bytes;
 use std::alloc::Global;
 
 /// Whether [`text_of`] takes the packet: an error has a code with a message, a proxy's refusal one of its reasons.

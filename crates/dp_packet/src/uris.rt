@@ -3,7 +3,7 @@ ghost use Rattle.std.specs.Prelude.{◌≡◌, IfOk};
 ghost use Rattle.dp_packet.specs.Uris as spec;
 
 use crate::Memory;
-use dp_value::{Bytes, without_slash};
+use dp_bytes::{Bytes, without_slash};
 use percent_encoding::{AsciiSet, NON_ALPHANUMERIC, ascii_set, percent_encode};
 use std::alloc::Global;
 

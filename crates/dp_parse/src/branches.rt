@@ -10,10 +10,10 @@ use crate::ended::{Body, Ended, finished};
 use crate::grammar::Statements;
 use crate::inside::Inside;
 use crate::levels::expression;
+use dp_bytes::{Items, Memory};
 use dp_expressions::both;
 use dp_token_rules::{Refusal, Terminal, Tokens, Word, none, with};
 use dp_tree::{Arm, Expression, StatementKind};
-use dp_value::{Items, Memory};
 use std::alloc::Global;
 use std::ops::ControlFlow;
 

@@ -9,10 +9,10 @@ ghost use Rattle.dp_parse.specs.inner.Within as limited;
 
 use crate::ended::{Body, Ended, stated, whole};
 use crate::levels::expression;
+use dp_bytes::{Items, Memory};
 use dp_expressions::both;
 use dp_token_rules::{Piece, Refusal, Terminal, Tokens, Word, many};
 use dp_tree::{Definition, StatementKind};
-use dp_value::{Items, Memory};
 use std::alloc::Global;
 
 /// Whether no constant's expression goes on with a token of this sort, behind a name or not.

@@ -4,9 +4,9 @@ ghost use Rattle.std.specs.Prelude.{◌≡◌, ◌++◌, ◌∷◌, [], IfOk};
 ghost use Rattle.dp_token_rules.specs.inner.Input.{Reads, gives};
 ghost use Rattle.dp_parse.specs.Statements as grammar;
 
+use dp_bytes::{Items, Memory};
 use dp_token_rules::{Refusal, Tokens, with};
 use dp_tree::{Boxed, Function, Statement, StatementKind};
-use dp_value::{Items, Memory};
 use std::alloc::Global;
 
 /// What a statement does, and whether an `else` behind it could still belong to it.

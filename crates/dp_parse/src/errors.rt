@@ -2,8 +2,8 @@
 
 ghost use Rattle.std.specs.Prelude.{◌≡◌};
 
+use dp_bytes::{Bytes, Memory};
 use dp_lexer::LexError;
-use dp_value::{Bytes, Memory};
 use thiserror::Error;
 
 /// Why bytes are no program, or no expression. A token is named by its number, from 0; where the end is what is wrong,

@@ -13,10 +13,10 @@ use crate::inside::Called;
 use crate::levels::{BODY_LEVELS, expression};
 use crate::parameters::parameters;
 use crate::statements::{bodies_over, statement};
+use dp_bytes::{Items, Memory};
 use dp_expressions::both;
 use dp_token_rules::{Refusal, Terminal, Tokens, Word, enter, none, with};
 use dp_tree::{Expression, Function, Statement};
-use dp_value::{Items, Memory};
 use std::alloc::Global;
 use std::ops::ControlFlow;
 

@@ -11,10 +11,10 @@ use crate::ended::{Ended, whole};
 use crate::grammar::Statements;
 use crate::inside::Inside;
 use crate::levels::{expression, some_places};
+use dp_bytes::{Bytes, Items};
 use dp_expressions::both;
 use dp_token_rules::{Piece, Refusal, Terminal, Tokens, Word, plain_items};
 use dp_tree::{Expression, StatementKind};
-use dp_value::{Bytes, Items};
 use std::alloc::Global;
 
 /// A variable in a list.

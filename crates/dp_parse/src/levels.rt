@@ -5,10 +5,10 @@ ghost use Rattle.dp_token_rules.specs.inner.Input.{Reads};
 ghost use Rattle.dp_parse.specs.inner.Within as limited;
 ghost use Rattle.dp_token_rules.specs.inner.ListReaders as lists;
 
+use dp_bytes::Items;
 use dp_expressions::Part;
 use dp_token_rules::{Piece, Refusal, Terminal, Tokens, any_plain_items, plain_items, some_items};
 use dp_tree::{Expression, Place};
-use dp_value::Items;
 use std::alloc::Global;
 
 /// How many levels of nesting an expression has at most.

@@ -10,10 +10,10 @@ use crate::ended::{Body, Ended, finished, whole};
 use crate::grammar::Statements;
 use crate::inside::Inside;
 use crate::levels::{any_expressions, expression};
+use dp_bytes::Bytes;
 use dp_expressions::both;
 use dp_token_rules::{Refusal, Terminal, Tokens, Word};
 use dp_tree::{Binding, Expression, StatementKind};
-use dp_value::Bytes;
 use std::alloc::Global;
 
 /// What a `foreach` binds whose first variable was read: the key where `=>` comes next, else the value.

@@ -4,7 +4,7 @@ ghost use Rattle.std.specs.Prelude.{◌≡◌, ◌++◌, ◌∷◌, [], not, if�
 ghost use Rattle.std.specs.List.{list_any};
 ghost use Rattle.std.specs.Str.{bytes_eq};
 
-use dp_value::{Bytes, Items, Memory};
+use dp_bytes::{Bytes, Items, Memory};
 use indexmap::IndexSet;
 use std::alloc::Global;
 use std::marker::Model;

@@ -6,8 +6,8 @@ ghost use Rattle.dp_parse.specs.inner.Parameters as spec;
 ghost use Rattle.dp_token_rules.specs.inner.ListReaders as lists;
 
 use crate::names::Names;
+use dp_bytes::{Bytes, Items};
 use dp_token_rules::{Refusal, Terminal, Tokens, Word};
-use dp_value::{Bytes, Items};
 use std::alloc::Global;
 use std::ops::ControlFlow;
 

@@ -12,10 +12,10 @@ use crate::grammar::Statements;
 use crate::inside::{Called, Inside};
 use crate::jumps::global_rule;
 use crate::levels::{expression, some_expressions};
+use dp_bytes::Items;
 use dp_expressions::both;
 use dp_token_rules::{Refusal, Terminal, Tokens, Word, none};
 use dp_tree::{Statement, StatementKind};
-use dp_value::Items;
 use std::alloc::Global;
 use std::ops::ControlFlow;
 

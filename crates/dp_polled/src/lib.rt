@@ -10,7 +10,7 @@ mod post;
 mod posted;
 mod turns;
 
-pub use dp_value::Memory;
+pub use dp_bytes::Memory;
 pub use list_polled::ListPolled;
 pub use piece::Piece;
 pub use polled::{Look, Polled};

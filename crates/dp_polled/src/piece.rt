@@ -1,6 +1,6 @@
 //! What goes through a post.
 
-use dp_value::Bytes;
+use dp_bytes::Bytes;
 
 /// What a reader hands over: bytes, or how its input is over.
 #[derive(Debug, Drop)]

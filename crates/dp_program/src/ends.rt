@@ -7,11 +7,11 @@ ghost use Rattle.dp_program.specs.Runs.{judged};
 ghost use Rattle.dp_program.specs.inner.Steps.{EndFailed, EndWritten, RunFailed, RunWrites};
 
 use crate::errors::RunError;
+use dp_bytes::Memory;
 use dp_outside::Sink;
 use dp_state::{Outcome, State};
 use dp_step::{Machine, Steps};
 use dp_tree::Bundle;
-use dp_value::Memory;
 use std::alloc::Global;
 use std::marker::Brand;
 use std::sync::ledger::{Blank, Ledger};

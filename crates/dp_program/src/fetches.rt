@@ -8,9 +8,9 @@ ghost use Rattle.dp_program.specs.Programs.{AreFetched, IsUnread, ProgramCaused,
 ghost use Rattle.dp_program.specs.inner.Steps.{FetchCaused, IsNext};
 
 use crate::errors::ProgramError;
+use dp_bytes::{Bytes, Items};
 use dp_outside::{Shelf, ShelfError};
 use dp_tree::FILE_LIMIT;
-use dp_value::{Bytes, Items};
 use std::alloc::Global;
 
 /// The name and the bytes of a fetched file, as `Bundle::new` takes them. The name is copied, the bytes are not.

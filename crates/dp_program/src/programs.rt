@@ -11,9 +11,9 @@ ghost use Rattle.dp_program.specs.Programs.{RequestsFiles};
 use crate::errors::ProgramError;
 use crate::fetches::fetch_files;
 use dp_bundle::FromTexts;
+use dp_bytes::{Bytes, Items};
 use dp_outside::Shelf;
 use dp_tree::Bundle;
-use dp_value::{Bytes, Items};
 use std::alloc::Global;
 
 /// The program that fetched files make.

@@ -11,7 +11,7 @@ use Rattle.dp_command.specs.Letters.{p}
 use Rattle.dp_command.specs.Lines.{line_of}
 use Rattle.dp_command.specs.Options.{Options, given}
 use Rattle.dp_outside.specs.Names.{IsKey}
-use Rattle.dp_value.specs.Decimals.{is_decimal, decimal_in}
+use Rattle.dp_bytes.specs.Decimals.{is_decimal, decimal_in}
 use Rattle.dp_proxy.specs.declared.calls.Call.{Call}
 use Rattle.dp_proxy.specs.declared.calls.Call.TheVariants.{Register, Stop}
 use Rattle.dp_proxy.specs.Calls.{greatest_port, k, is_key, key_in, not_zero, port_in, multiple_in, register_in, stop_in, registers, stops, call_by, call_on, call_of, is_stopping}

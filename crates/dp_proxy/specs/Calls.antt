@@ -7,7 +7,7 @@ use Rattle.std.specs.List.{list_all, list_any}
 use Rattle.std.specs.Option.{option_map_or}
 use Rattle.std.specs.Str.{bytes_eq}
 use Rattle.dp_outside.specs.Names.{is_name, key_limit}
-use Rattle.dp_value.specs.Decimals.{decimal_in}
+use Rattle.dp_bytes.specs.Decimals.{decimal_in}
 use Rattle.dp_command.specs.declared.line.Line.{Line}
 use Rattle.dp_command.specs.Letters.{i, m, p}
 use Rattle.dp_command.specs.Lines.{line_of}

@@ -24,10 +24,10 @@ use crate::input::{Hearing, hear};
 use crate::kept::{Kept, Step};
 use crate::passes::{Passing, pass as pass_on};
 use crate::replies::registration;
+use dp_bytes::{Bytes, Memory};
 use dp_lanes::{Lane, LaneKind};
 use dp_packet::{Packet, text_of};
 use dp_registry::{Pass, Refusal, Registry};
-use dp_value::{Bytes, Memory};
 use dp_wire::packet_bytes;
 use std::alloc::Global;
 

@@ -5,9 +5,9 @@ ghost use Rattle.std.specs.Option.{option_copied};
 ghost use Rattle.dp_proxy.specs.Calls as spec;
 ghost use Rattle.dp_proxy.specs.Replies.{IsKeyed};
 
+use dp_bytes::{Bytes, Memory, decimal};
 use dp_command::{Line, LineError, has_duplicate, option_value, read_line};
 use dp_outside::{KEY_LIMIT, is_name};
-use dp_value::{Bytes, Memory, decimal};
 use std::alloc::Global;
 
 /// What is asked of the registry, by the host that asks.

@@ -1,7 +1,7 @@
 //! The events of a proxy's core, and what they lead to.
 
+use dp_bytes::Bytes;
 use dp_registry::Refusal;
-use dp_value::Bytes;
 
 /// What happens on a link.
 #[derive(Debug, Drop)]

@@ -6,8 +6,8 @@ ghost use Rattle.dp_proxy.specs.Inits.{GivesKey};
 
 use crate::calls::is_key;
 use crate::errors::InitError;
+use dp_bytes::Bytes;
 use dp_markup::{MarkupError, head_attribute};
-use dp_value::Bytes;
 use std::alloc::Global;
 
 /// A value that is a key.

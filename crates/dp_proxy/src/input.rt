@@ -5,7 +5,7 @@ ghost use Rattle.dp_proxy.specs.declared.events.Act.TheVariants as acted;
 ghost use Rattle.dp_proxy.specs.inner.Acts.{Hears};
 
 use crate::events::Act;
-use dp_value::Memory;
+use dp_bytes::Memory;
 use dp_wire::first_nul;
 
 /// Whether a command is asked with an act.

@@ -5,9 +5,9 @@ ghost use Rattle.dp_proxy.specs.declared.kept.Kept.TheVariants as keep;
 
 use crate::errors::ProxyError;
 use crate::events::Effect;
+use dp_bytes::{Bytes, Memory};
 use dp_lanes::Lane;
 use dp_registry::Pass;
-use dp_value::{Bytes, Memory};
 use indexmap::IndexMap;
 use std::alloc::Global;
 use std::marker::Model;

@@ -15,9 +15,9 @@ mod proxy;
 mod replies;
 
 pub use calls::{Call, call_of};
+pub use dp_bytes::Memory;
 pub use dp_lanes::{Lane, LaneKind, PIECE_LIMIT};
 pub use dp_registry::{Refusal, Registry};
-pub use dp_value::Memory;
 pub use errors::{InitError, ProxyError};
 pub use events::{Act, Effect, Event};
 pub use inits::key_of_init;

@@ -6,8 +6,8 @@ ghost use Rattle.dp_proxy.specs.inner.Lanes.{BrokenPlace, FollowBoth};
 ghost use Rattle.dp_proxy.specs.inner.Acts.{Passes};
 
 use crate::events::{Act, Effect};
+use dp_bytes::{Bytes, Memory};
 use dp_lanes::{Lane, bad_place, carry};
-use dp_value::{Bytes, Memory};
 use std::alloc::Global;
 
 /// What an act of a session is answered, and whether it ends the session.

@@ -6,9 +6,9 @@ ghost use Rattle.dp_outside.specs.Names.{IsHost};
 ghost use Rattle.dp_proxy.specs.Replies as spec;
 
 use crate::calls::{Call, call_of, is_stopping};
+use dp_bytes::{Bytes, Memory};
 use dp_packet::ProxyReply;
 use dp_registry::{Refusal, Registry};
-use dp_value::{Bytes, Memory};
 use std::alloc::Global;
 
 /// The number of a refusal. Takes no memory.

@@ -11,8 +11,8 @@ use Rattle.std.specs.Char.{is_ascii_digit}
 use Rattle.std.specs.List.{list_all}
 use Rattle.std.specs.Str.{bytes_eq}
 use Rattle.std.specs.Str.Parse.{digits_value}
-use Rattle.dp_value.specs.Decimals.{is_decimal, decimal_in}
-use Rattle.dp_value.specs.IntText.{is_positive}
+use Rattle.dp_bytes.specs.Decimals.{is_decimal, decimal_in}
+use Rattle.dp_bytes.specs.IntText.{is_positive}
 use Rattle.dp_records.specs.inner.Audits.{has_no_feed}
 
 abbrev Digits : List ℕ → Type 0

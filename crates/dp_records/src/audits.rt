@@ -15,8 +15,8 @@ use crate::balances::Balance;
 use crate::entry::{Entry, Stream};
 use crate::sessions::{Over, Recorded, Turn, answer_next, parts_of};
 use crate::statuses::status_of;
+use dp_bytes::Memory;
 use dp_conversation::{BYTE_LIMIT, Conversation, Responder};
-use dp_value::Memory;
 use dp_wire::packet_bytes;
 use std::alloc::Global;
 

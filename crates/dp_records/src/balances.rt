@@ -3,7 +3,7 @@ ghost use Rattle.std.specs.Prelude.{◌≡◌, ◌↔◌, ◌++◌, [], ℕ, Lis
 ghost use Rattle.dp_records.specs.inner.Balances.{AreApart, IsBalance, IsPaid, RecordReports, SessionReports};
 ghost use Rattle.dp_conversation.specs.Growth.{Begins};
 
-use dp_value::Memory;
+use dp_bytes::Memory;
 use std::alloc::Global;
 use std::collections::VecDeque;
 

@@ -1,6 +1,6 @@
 //! What a line of a record tells.
 
-use dp_value::Bytes;
+use dp_bytes::Bytes;
 
 /// Whose bytes they are.
 #[derive(Clone, Copy, Debug, PartialEq, Eq)]

@@ -16,7 +16,7 @@ mod tapes;
 mod texts;
 mod verdict;
 
-pub use dp_value::Memory;
+pub use dp_bytes::Memory;
 pub use entry::{Entry, Stream};
 pub use laws::one_verdict;
 pub use records::audit;

@@ -6,7 +6,7 @@ ghost use Rattle.dp_records.specs.inner.Readings.{SaysSo, Spells, is_small_digit
 
 use crate::entry::{Entry, Stream};
 use crate::statuses::is_status;
-use dp_value::{Bytes, Memory, decimal};
+use dp_bytes::{Bytes, Memory, decimal};
 use hex::{FromHexError, decode};
 use std::alloc::Global;
 

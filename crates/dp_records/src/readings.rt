@@ -5,8 +5,8 @@ ghost use Rattle.dp_records.specs.inner.Audits.{EndsLine, HasLine, IsReading, Re
 
 use crate::audits::{Audit, Fit};
 use crate::lines::{Line, PIECE_LIMIT, line_in};
+use dp_bytes::Memory;
 use dp_conversation::Responder;
-use dp_value::Memory;
 use std::alloc::Global;
 
 /// The most bytes of a line: a word of three letters, a space, two digits for each byte, and a line feed.

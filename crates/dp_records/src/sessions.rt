@@ -2,9 +2,9 @@
 ghost use Rattle.std.specs.Prelude.{◌≡◌, ◌++◌, ℕ, List, IfOk};
 ghost use Rattle.dp_records.specs.inner.Turns.{Takes, end_of, is_bad};
 
+use dp_bytes::{Bytes, Memory};
 use dp_conversation::{Answer, Conversation, Next, Responder, append_packets};
 use dp_state::Outcome;
-use dp_value::{Bytes, Memory};
 use std::alloc::Global;
 
 /// A session that can be recorded: it answers commands, and its program runs on once it is over.

@@ -3,7 +3,7 @@ ghost use Rattle.std.specs.Prelude.{◌≡◌, IfOk};
 ghost use Rattle.dp_records.specs.Records as spec;
 
 use crate::entry::Stream;
-use dp_value::Memory;
+use dp_bytes::Memory;
 use hex::encode;
 use std::alloc::Global;
 

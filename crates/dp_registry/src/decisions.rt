@@ -4,7 +4,7 @@ use crate::entry::{AdmitReply, Entry};
 use crate::pass::Pass;
 use crate::refusal::Refusal;
 use crate::registry::Registry;
-use dp_value::Bytes;
+use dp_bytes::Bytes;
 
 impl Registry {
     ghost use Rattle.std.specs.Prelude.{◌≡◌, false, Contains, IfOk};

@@ -8,7 +8,7 @@ ghost use Rattle.dp_registry.specs.inner.Tables.{sessions_of};
 use crate::entry::{AdmitReply, Entry};
 use crate::registry::Registry;
 use crate::sessions::LiveSessions;
-use dp_value::{Bytes, Memory};
+use dp_bytes::{Bytes, Memory};
 
 impl Registry {
     ghost use Rattle.std.specs.Prelude.{◌≡◌, ◌++◌, ◌∷◌, [], false, Contains, OnOk, OnErr};

@@ -1,6 +1,6 @@
 //! The entries of a journal.
 
-use dp_value::Bytes;
+use dp_bytes::Bytes;
 
 /// A call with its reply.
 #[derive(Debug, Drop)]

@@ -3,7 +3,7 @@
 use crate::entry::{AdmitReply, Entry};
 use crate::refusal::Refusal;
 use crate::registry::Registry;
-use dp_value::{Bytes, Memory};
+use dp_bytes::{Bytes, Memory};
 use std::alloc::Global;
 
 /// The most entries that there may be, once each live session was dismissed.

@@ -11,7 +11,7 @@ mod refusal;
 mod registry;
 mod sessions;
 
-pub use dp_value::Memory;
+pub use dp_bytes::Memory;
 pub use entry::{AdmitReply, Entry};
 pub use pass::Pass;
 pub use refusal::Refusal;

@@ -1,6 +1,6 @@
 //! What an engine is given when it is admitted.
 
-use dp_value::Bytes;
+use dp_bytes::Bytes;
 
 /// A session, and where its IDE is reached.
 #[derive(Debug, Drop)]

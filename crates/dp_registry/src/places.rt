@@ -3,7 +3,7 @@
 ghost use Rattle.std.specs.Prelude.{◌≡◌, [], if◌then◌else◌, bytes_eq, Some, None, OnOk, OnErr, List, ℕ};
 ghost use Rattle.dp_registry.specs.inner.Tables.{place_of};
 
-use dp_value::{Bytes, Memory};
+use dp_bytes::{Bytes, Memory};
 use indexmap::IndexMap;
 use std::alloc::Global;
 use std::marker::Model;

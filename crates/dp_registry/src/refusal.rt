@@ -3,7 +3,7 @@
 ghost use Rattle.std.specs.Prelude.{◌≡◌};
 ghost use Rattle.dp_registry.specs.declared.refusal.Refusal.TheVariants.{Memory as NoMemory};
 
-use dp_value::Bytes;
+use dp_bytes::Bytes;
 use std::alloc::{AllocError, AllocFailed};
 use thiserror::Error;
 

@@ -6,7 +6,7 @@ use crate::pass::Pass;
 use crate::places::Places;
 use crate::refusal::Refusal;
 use crate::sessions::LiveSessions;
-use dp_value::Bytes;
+use dp_bytes::Bytes;
 use std::alloc::Global;
 use std::marker::Model;
 

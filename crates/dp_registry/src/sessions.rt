@@ -4,7 +4,7 @@ ghost use Rattle.std.specs.Prelude.{◌≡◌, ◌==◌, ◌++◌, ◌∷◌, []
 ghost use Rattle.std.specs.Prelude.{IfOk, OnOk, OnErr, List, ℕ};
 ghost use Rattle.dp_registry.specs.inner.Tables.{sessions_of};
 
-use dp_value::{Bytes, Memory};
+use dp_bytes::{Bytes, Memory};
 use indexmap::IndexMap;
 use std::alloc::Global;
 use std::marker::Model;

@@ -13,12 +13,12 @@ ghost use Rattle.dp_relay.specs.inner.Openings.{end_of_refusal};
 
 use crate::ends::{LaneEnd, RelayEnd};
 use crate::lanes::{LaneDone, LaneJob, bad_offset, read_piece};
+use dp_bytes::Bytes;
 use dp_desk::{Clerk, Desk};
 use dp_lanes::{Lane, LaneKind, PIECE_LIMIT};
 use dp_outside::{Dialer, Failed, Host, Sink, Source, Spawner};
 use dp_proxy::{InitError, key_of_init};
 use dp_registry::{Pass, Refusal};
-use dp_value::Bytes;
 use std::alloc::Global;
 use std::sync::Wait;
 use std::sync::ledger::Ledger;

@@ -15,12 +15,12 @@ ghost use Rattle.dp_relay.specs.inner.Replying.{Puts, sink_end};
 
 use crate::commands::{READ_LIMIT, read_command};
 use crate::errors::RelayError;
+use dp_bytes::{Bytes, Memory};
 use dp_desk::{Clerk, Desk};
 use dp_outside::{Host, Sink, Source};
 use dp_packet::{Packet, ProxyReply, text_of};
 use dp_proxy::{Call, call_of, reply_of};
 use dp_registry::Refusal;
-use dp_value::{Bytes, Memory};
 use dp_wire::packet_bytes;
 use std::alloc::Global;
 use std::sync::Wait;

@@ -15,7 +15,7 @@ use Rattle.dp_packet.specs.declared.packet.HitRule.TheVariants as rule
 use Rattle.dp_packet.specs.Parts.{Text, flag, base64}
 use Rattle.dp_packet.specs.Breakpoints.{kind_name, rule_name, state_name}
 use Rattle.dp_packet.proofs.Integers.{own, positive, or_true, zero_text}
-use Rattle.dp_value.specs.Decimals.{is_decimal, decimal_in}
+use Rattle.dp_bytes.specs.Decimals.{is_decimal, decimal_in}
 use Rattle.dp_reply.specs.Contents.{flag_in, bytes_in}
 use Rattle.dp_reply.specs.Readings.{kind_in, state_in, rule_in}
 use Rattle.dp_reply.specs.Norm.{are_bytes}

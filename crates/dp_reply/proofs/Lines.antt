@@ -9,7 +9,7 @@ use Rattle.dp_packet.specs.declared.packet.BreakKind.{BreakKind}
 use Rattle.dp_packet.specs.declared.packet.HitRule.{HitRule}
 use Rattle.dp_packet.specs.Parts.{Text, Attributes, element, given, text_nodes}
 use Rattle.dp_packet.specs.Breakpoints.{kind_attributes, place_attributes, hit_attributes, resolved_attribute, given_number, expression_nodes}
-use Rattle.dp_value.specs.Decimals.{decimal_in}
+use Rattle.dp_bytes.specs.Decimals.{decimal_in}
 use Rattle.dp_reply.specs.Contents.{◌>>=◌, flag_in, alone, words, elements, optional_number, most_32, most_64, only, text_in}
 use Rattle.dp_reply.specs.Readings.{Sort, Hits, rule_in, stack_in, context_in, sort_in, hits_in, expression_of, says_resolved, break_line, breakpoint_in}
 use Rattle.dp_reply.specs.Norm.{is_within, is_stack_line, is_context, is_break_line}

@@ -3,7 +3,7 @@ use Rattle.std.proofs.Common.{◌≡◌, ℕ, ℤ, zero, suc, Bool, true, false,
 use Rattle.std.proofs.lemmas.Bool.{and_parts}
 use Rattle.std.specs.Fmt.{signed_decimal}
 use Rattle.std.specs.List.{list_all, AllByRecursion}
-use Rattle.dp_value.specs.IntText.{int_of_text, is_in_64_bits}
+use Rattle.dp_bytes.specs.IntText.{int_of_text, is_in_64_bits}
 use Rattle.dp_markup.specs.declared.tree.Element.{Element}
 use Rattle.dp_markup.specs.declared.tree.Node.{Node}
 use Rattle.dp_markup.specs.declared.tree.Node.TheVariants as node
@@ -20,7 +20,7 @@ use Rattle.dp_packet.specs.declared.property.Shape.TheFolds.{fold-roll-Shape, fo
 use Rattle.dp_packet.specs.Parts.{Text, Attributes, element, given, text_nodes, flag, base64}
 use Rattle.dp_packet.specs.Properties.{Part, value_part, property_layer, property_node, array_attributes, text_attributes, type_of}
 use Rattle.dp_packet.specs.inner.Shapes.{shape_part}
-use Rattle.dp_value.specs.Decimals.{decimal_in}
+use Rattle.dp_bytes.specs.Decimals.{decimal_in}
 use Rattle.dp_reply.specs.Contents.{◌>>=◌, each, flag_in, bytes_in, attribute, alone, words, elements, most_64, text_in}
 use Rattle.dp_reply.specs.Readings.{shape_in, property_within, property_around, property_of, shown}
 use Rattle.dp_reply.specs.Norm.{are_bytes, is_shape, has_shape, is_property}

@@ -1,7 +1,7 @@
 -- What is left of a packet that is written and read again, and which packets are read again.
 use Rattle.std.specs.Prelude.{◌≡◌, ℕ, nat_le, nat_lt, Bool, true, ◌&&◌, [], length, Option, Some, None}
 use Rattle.std.specs.List.{list_all}
-use Rattle.dp_value.specs.IntText.{is_in_64_bits}
+use Rattle.dp_bytes.specs.IntText.{is_in_64_bits}
 use Rattle.dp_markup.specs.Grammar.{limit}
 use Rattle.dp_markup.specs.Readable.{IsReadable}
 use Rattle.dp_packet.specs.declared.packet.Packet.{Packet}

@@ -2,7 +2,7 @@
 -- packet does not keep is not looked at.
 use Rattle.std.specs.Prelude.{◌≡◌, ℕ, zero, suc, nat_le, Bool, true, false, not, ◌||◌, if◌then◌else◌, List, [], ◌∷◌, length, Option, Some, None, option_map, codes, filter}
 use Rattle.std.specs.Option.{option_or}
-use Rattle.dp_value.specs.IntText.{int_of_text}
+use Rattle.dp_bytes.specs.IntText.{int_of_text}
 use Rattle.dp_markup.specs.declared.tree.Element.{Element}
 use Rattle.dp_markup.specs.Grammar.{same_text, limit}
 use Rattle.dp_packet.specs.declared.packet.Packet.{Packet}

@@ -1,7 +1,7 @@
 //! What is found in an element that is read.
 
 ghost use Rattle.std.specs.Prelude.{◌≡◌, ◌≤◌, ◌++◌, ◌∷◌, not, IfOk, OnOk, option_copied, option_to_list};
-ghost use Rattle.dp_value.specs.Decimals.{decimal_in};
+ghost use Rattle.dp_bytes.specs.Decimals.{decimal_in};
 ghost use Rattle.dp_markup.specs.declared.tree.Node.TheViews.{out-Node};
 ghost use Rattle.dp_reply.specs.Contents as spec;
 ghost use Rattle.dp_reply.specs.Verdict.{Finds};
@@ -9,8 +9,8 @@ ghost use Rattle.dp_reply.specs.Verdict.{Finds};
 use crate::errors::ReplyError;
 use base64::DecodeAllocError;
 use base64::engine::general_purpose::STANDARD;
+use dp_bytes::{Bytes, Memory, decimal};
 use dp_markup::{Element, Node, same_text};
-use dp_value::{Bytes, Memory, decimal};
 use std::alloc::Global;
 
 /// Reads `0` or `1`; refuses any other text.

@@ -8,8 +8,8 @@ ghost use Rattle.dp_reply.specs.Verdict.{Finds, behind};
 
 use crate::contents::element_in;
 use crate::errors::ReplyError;
+use dp_bytes::Items;
 use dp_markup::{Element, Node};
-use dp_value::Items;
 use std::alloc::Global;
 
 /// What an element of a list is read as.

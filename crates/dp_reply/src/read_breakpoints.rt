@@ -10,9 +10,9 @@ use crate::contents::{
     optional_number, optional_text, text_in,
 };
 use crate::errors::ReplyError;
+use dp_bytes::Bytes;
 use dp_markup::{Element, same_text};
 use dp_packet::{BreakKind, BreakLine, HitRule};
-use dp_value::Bytes;
 use std::alloc::Global;
 
 /// Reads the type of a breakpoint; refuses any text but `line`, `call`, `return` and `conditional`.

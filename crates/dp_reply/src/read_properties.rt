@@ -9,9 +9,9 @@ use crate::contents::{
     attribute, bytes, element_in, flag, has_no_words, is_named, number_at, optional_text, text_in,
 };
 use crate::errors::ReplyError;
+use dp_bytes::{Items, int_of_text};
 use dp_markup::{Element, Node, level_limit, same_text};
 use dp_packet::{Property, Shape};
-use dp_value::{Items, int_of_text};
 use std::alloc::Global;
 
 /// Reads the boolean of a property; refuses any text but `0` and `1`.

@@ -13,9 +13,9 @@ use crate::errors::ReplyError;
 use crate::lists::{Entry, entries};
 use crate::read_breakpoints::breakpoint_in;
 use crate::read_properties::property_in;
+use dp_bytes::{Bytes, Items, Memory};
 use dp_markup::{Element, Node, same_text};
 use dp_packet::{Body, BreakLine, Property, Response, StackLine};
-use dp_value::{Bytes, Items, Memory};
 use std::alloc::Global;
 
 /// Reads a frame of the stack; refuses an element of another name, or without one of the attributes.

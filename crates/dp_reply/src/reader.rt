@@ -12,9 +12,9 @@ use crate::contents::{attribute, bytes, flag, is_named, number_at, only_element,
 use crate::errors::ReplyError;
 use crate::read_breakpoints::breakpoint_in;
 use crate::read_responses::{error_in, response_in};
+use dp_bytes::Bytes;
 use dp_markup::{Element, read};
 use dp_packet::{BreakLine, Init, Notify, Packet, ProxyReply, text_of};
-use dp_value::Bytes;
 use std::alloc::Global;
 
 /// Reads a session's first packet: the key and the file; refuses an element without one of them.

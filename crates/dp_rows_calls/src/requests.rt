@@ -1,11 +1,11 @@
 //! What commands ask for, in words.
 
+use dp_bytes::Bytes;
 use dp_command::{
     BreakpointRequest, BreakpointSet, BreakpointUpdate, LookRequest, PropertyPlace, PropertySet,
     Request, SessionRequest, SourceRange, WriteRequest,
 };
 use dp_rows::{Memory, put_bytes};
-use dp_value::Bytes;
 
 /// Puts a part by its name.
 fn put_part(text: &mut String, name: &str, value: &[u8]) -> Result<(), Memory> {

@@ -2,9 +2,9 @@
 
 ghost use Rattle.dp_proxy.specs.Steps.{HasHost};
 
+use dp_bytes::Bytes;
 use dp_proxy::{Act, Effect, Event, Proxy, ProxyError};
 use dp_rows::{Memory, put_bytes};
-use dp_value::Bytes;
 use std::alloc::Global;
 
 /// The number of the link of the engine. That of the IDE that registers is 1.

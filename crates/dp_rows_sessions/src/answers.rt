@@ -3,13 +3,13 @@
 use crate::breakpoints::{remove, set, shown, shown_all, update};
 use crate::session::Session;
 use crate::views::{context_body, evaluated_body, names_body, page_body, stack_body, value_body};
+use dp_bytes::{Bytes, Items};
 use dp_command::{
     BreakpointAction, BreakpointRequest, Command, Line, LookRequest, Request, WriteRequest,
     read_line,
 };
 use dp_packet::{Body, ErrorCode, Packet, Response, has_message, text_of};
 use dp_rows::Memory;
-use dp_value::{Bytes, Items};
 use std::alloc::Global;
 
 /// What a command gives: attributes and a body, or the code of an error; nothing where it is no command here.

@@ -3,10 +3,10 @@
 use crate::answers::{Answer, attribute, bare};
 use crate::session::Session;
 use dp_break::{BreakError, breakpoint_change, breakpoint_line, breakpoint_request};
+use dp_bytes::{Bytes, Items};
 use dp_command::{BreakpointSet, BreakpointUpdate};
 use dp_packet::{Body, ErrorCode};
 use dp_rows::Memory;
-use dp_value::{Bytes, Items};
 use std::alloc::Global;
 
 /// The file where the program is.

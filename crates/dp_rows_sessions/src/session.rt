@@ -11,12 +11,12 @@ use crate::answers::{packet_for, put_packet};
 use crate::moments::{put_end, put_moment};
 use crate::writes::{evaluation, placing};
 use dp_break::Breaks;
+use dp_bytes::{Bytes, Items};
 use dp_meaning::{NumberedWrite, Stop, run_to};
 use dp_parse::parse_file;
 use dp_rows::{Field, Memory, Row, at_space, number_of, unescaped};
 use dp_state::{Moment, State};
 use dp_tree::{Bundle, BundleFile, Files};
-use dp_value::{Bytes, Items};
 use dp_view::Paging;
 use std::alloc::Global;
 

@@ -3,10 +3,10 @@
 use crate::answers::{Answer, attribute, bare};
 use crate::session::Session;
 use crate::writes::value_of;
+use dp_bytes::Items;
 use dp_command::PropertyPlace;
 use dp_packet::{Body, ErrorCode, Property};
 use dp_rows::Memory;
-use dp_value::Items;
 use dp_view::{
     Paging, ShownValue, ViewError, context, contexts, named_property, named_value, shown, stack,
 };

@@ -7,7 +7,7 @@ use Rattle.std.specs.Option.{option_map_or}
 use Rattle.std.specs.Str.Parse.{digits_value}
 use Rattle.std.proofs.lemmas.Bool.{leb-true}
 use Rattle.std.proofs.lemmas.Fmt.{length-decimal-le}
-use Rattle.dp_value.specs.Decimals.{decimal_in, is_decimal}
+use Rattle.dp_bytes.specs.Decimals.{decimal_in, is_decimal}
 use Rattle.dp_tree.specs.declared.bundle.Bundle.{Bundle}
 use Rattle.dp_break.specs.Commands.{breakpoint_response}
 use Rattle.dp_command.specs.declared.command.BreakpointAction.TheVariants.{Get, Remove}

@@ -5,7 +5,7 @@ mod errors;
 mod laws;
 mod lines;
 
-pub use dp_value::Memory;
+pub use dp_bytes::Memory;
 pub use errors::ShowError;
 pub use laws::ends_apart;
 pub use lines::show;

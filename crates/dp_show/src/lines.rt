@@ -8,9 +8,9 @@ ghost use Rattle.dp_show.specs.Shows.{Ends};
 ghost use Rattle.dp_show.specs.inner.Progress.{LineOf, IsLine, ShowsOn, TextFails, HeldFails, PieceFails};
 
 use crate::errors::ShowError;
+use dp_bytes::{Bytes, Memory};
 use dp_markup::{MarkupError, read, write};
 use dp_outside::{Sink, Source};
-use dp_value::{Bytes, Memory};
 use dp_wire::Packets;
 use std::alloc::Global;
 

@@ -21,9 +21,10 @@ use dp_actions::{
     Halt, Signal, bind_all, bind_entry, define_constant, exit_value, holds, print_value,
     unset_place,
 };
+use dp_bytes::{Bytes, Items};
 use dp_state::State;
 use dp_tree::{Binding, Definition, Expression, Place};
-use dp_value::{Bytes, Items, Value};
+use dp_value::Value;
 use std::alloc::Global;
 
 /// A value is given to a statement that waits for one.

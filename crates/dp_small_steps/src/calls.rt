@@ -12,9 +12,10 @@ ghost use Rattle.dp_small_steps.specs.Parts.{to_value};
 use crate::next::{alone, given, values_first};
 use crate::work::{AfterValues, ForValues, Hand, Next, Work};
 use dp_actions::{Callee, Halt, fatal, file_named_by, look_up, not_included};
+use dp_bytes::{Bytes, Items};
 use dp_state::{FatalKind, State};
 use dp_tree::{Bundle, Expression, Inclusion};
-use dp_value::{Bytes, Items, Value};
+use dp_value::Value;
 use std::alloc::Global;
 
 /// The call of a name.

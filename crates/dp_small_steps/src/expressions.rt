@@ -13,9 +13,10 @@ ghost use Rattle.dp_small_steps.specs.Leads.{Leads};
 use crate::next::{alone, give, given, values_first};
 use crate::work::{ForPart, ForValue, ForValues, Hand, Next, Work};
 use dp_actions::{Halt, Reading, constant_value, text_value, variable_value};
+use dp_bytes::Items;
 use dp_state::State;
 use dp_tree::{Boxed, Expression, Place};
-use dp_value::{Items, PhpArray, Value};
+use dp_value::{PhpArray, Value};
 use std::alloc::Global;
 
 /// An expression to the left of `??`.

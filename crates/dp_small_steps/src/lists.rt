@@ -20,8 +20,9 @@ ghost use Rattle.dp_small_steps.specs.declared.work.Given.TheVariants as any_giv
 use crate::next::{alone, give, values_first};
 use crate::work::{ForPart, ForValues, Given, Hand, Next, Work};
 use dp_actions::{Halt, Reading, holds};
+use dp_bytes::Items;
 use dp_tree::{Expression, Item, Link, Operator, Place};
-use dp_value::{Items, Value};
+use dp_value::Value;
 use std::alloc::Global;
 
 /// The values of expressions, of which the first are there.

@@ -18,8 +18,9 @@ use crate::work::{
     Work,
 };
 use dp_actions::{LoopStep, Signal, after_body, last_holds};
+use dp_bytes::Items;
 use dp_state::Outcome;
-use dp_value::{Items, Value};
+use dp_value::Value;
 use std::alloc::Global;
 
 /// Turns of a `while` or a `for`, at most so many.

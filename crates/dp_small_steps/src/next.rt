@@ -19,9 +19,10 @@ ghost use Rattle.dp_small_steps.specs.declared.work.Work.TheVariants as any_work
 
 use crate::work::{AfterValue, Given, Hand, Next, Small, Work};
 use dp_actions::{Halt, Reading, Signal};
+use dp_bytes::Items;
 use dp_state::MomentKind;
 use dp_tree::{Expression, Item, Link};
-use dp_value::{Items, Value};
+use dp_value::Value;
 use std::alloc::Global;
 
 /// A moment before a statement on this line, and what is done behind it.

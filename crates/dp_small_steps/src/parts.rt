@@ -24,10 +24,11 @@ use dp_actions::{
     is_missing_place, native_call, operated, present, pushed, put, read_place, step_place,
     value_of,
 };
+use dp_bytes::{Bytes, Items, Memory};
 use dp_operations::unary;
 use dp_state::State;
 use dp_tree::{BinaryOp, Boxed, Expression, Item, Link, Native, Order, Place, UnaryOp};
-use dp_value::{Bytes, Items, Memory, Value, truthy};
+use dp_value::{Value, truthy};
 use std::alloc::Global;
 
 /// A value is given to a list of parts that waits for one.

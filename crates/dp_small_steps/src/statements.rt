@@ -15,9 +15,9 @@ use crate::work::{
     AfterValue, AfterValues, DoTurns, EachTurns, Hand, Head, Next, Small, Turns, Work,
 };
 use dp_actions::Signal;
+use dp_bytes::Items;
 use dp_state::Outcome;
 use dp_tree::{Arm, Boxed, Definition, Expression, Place, Statement, StatementKind};
-use dp_value::Items;
 use std::alloc::Global;
 
 /// The beginning of a statement: its moment, if it has one, and what is done first. What a machine begins where it

@@ -2,12 +2,13 @@
 //! with the values that it has read, and lends its tree.
 
 use dp_actions::{Reading, Signal};
+use dp_bytes::{Bytes, Items};
 use dp_state::{MomentKind, Outcome};
 use dp_tree::{
     Arm, BinaryOp, Binding, Boxed, Definition, Expression, Function, Inclusion, Item, Link, Native,
     Order, Place, Statement, UnaryOp,
 };
-use dp_value::{Bytes, Items, Value};
+use dp_value::Value;
 
 /// What a finished part gives to the one that waits for it.
 #[derive(Drop)]

@@ -11,8 +11,9 @@ use crate::moments::FatalKind;
 use crate::state::{Fault, Frame, FrameKind, State};
 use crate::steps::FRAME_LIMIT;
 use crate::vars::{Slot, Vars};
+use dp_bytes::{Bytes, Items, Memory};
 use dp_tree::{Bundle, Function};
-use dp_value::{Bytes, Items, Memory, Value};
+use dp_value::Value;
 use std::alloc::Global;
 
 impl State {

@@ -9,7 +9,8 @@ ghost use Rattle.dp_state.specs.inner.Standing.{value_of};
 
 use crate::state::State;
 use crate::vars::{Slot, Vars};
-use dp_value::{Bytes, Memory, Text, Value};
+use dp_bytes::{Bytes, Memory, Text};
+use dp_value::Value;
 use std::alloc::Global;
 
 /// The value of a constant that is there from the start, which takes no memory yet: a text of one byte, or an integer.

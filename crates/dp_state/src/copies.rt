@@ -5,7 +5,7 @@ ghost use Rattle.dp_state.specs.inner.Parts.{with_pair};
 
 use crate::state::{Frame, FrameKind, State};
 use crate::vars::{Slot, Vars};
-use dp_value::Memory;
+use dp_bytes::Memory;
 
 impl Slot {
     /// An equal slot.

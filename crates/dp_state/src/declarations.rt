@@ -5,8 +5,8 @@ ghost use Rattle.dp_tree.specs.Files.{first_functions, function_named};
 ghost use Rattle.dp_state.specs.Functions.{declared_function};
 ghost use Rattle.dp_state.specs.inner.Declarations.{functions_in, reference_in};
 
+use dp_bytes::Memory;
 use dp_tree::{AnyCase, Bundle, FunctionRef};
-use dp_value::Memory;
 use std::alloc::Global;
 use std::marker::Model;
 

@@ -12,9 +12,8 @@ ghost use Rattle.dp_state.specs.declared.vars.Slot.TheVariants as variable;
 use crate::moments::FatalKind;
 use crate::state::Fault;
 use crate::vars::{Slot, Vars};
-use dp_value::{
-    Bytes, Key, Memory, Text, Value, WEIGHT_LIMIT, append_at, remove_at, weight, write_at,
-};
+use dp_bytes::{Bytes, Memory, Text};
+use dp_value::{Key, Value, WEIGHT_LIMIT, append_at, remove_at, weight, write_at};
 use std::alloc::Global;
 
 /// Gives a variable a value, or gives it to the entry of the variable under `keys`, or pushes it there.

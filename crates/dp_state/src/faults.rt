@@ -4,7 +4,8 @@ ghost use Rattle.std.specs.Prelude.{◌≡◌};
 
 use crate::moments::FatalKind;
 use crate::state::Fault;
-use dp_value::{CallError, Memory, ValueError, WriteError};
+use dp_bytes::Memory;
+use dp_value::{CallError, ValueError, WriteError};
 use std::alloc::AllocFailed;
 
 impl From<Memory> for Fault {

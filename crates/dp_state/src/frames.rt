@@ -10,7 +10,7 @@ ghost use Rattle.dp_state.specs.States.{owner as owner_of, with_line};
 
 use crate::state::{Frame, Frames};
 use crate::vars::Vars;
-use dp_value::{Bytes, Memory};
+use dp_bytes::{Bytes, Memory};
 use std::alloc::Global;
 use std::mem;
 

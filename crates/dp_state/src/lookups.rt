@@ -7,7 +7,8 @@ ghost use Rattle.dp_state.specs.States.{read, read_at, top_frame, variables_at};
 
 use crate::state::{Frame, State};
 use crate::vars::{Slot, Vars};
-use dp_value::{Bytes, Value};
+use dp_bytes::Bytes;
+use dp_value::Value;
 
 impl State {
     /// The own variables of the frame at this position; those of the lowest are the global ones.

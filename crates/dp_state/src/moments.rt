@@ -1,6 +1,7 @@
 //! The moments of a run, its end, and paths to what stands in variables.
 
-use dp_value::{Bytes, Items, Key};
+use dp_bytes::{Bytes, Items};
+use dp_value::Key;
 
 /// What comes at a moment.
 #[derive(Clone, Copy, Debug, PartialEq, Eq)]

@@ -15,7 +15,8 @@ ghost use Rattle.dp_state.specs.inner.Parts.{home as home_of};
 use crate::entries::{append_in, assign_in, bind_in, make_null, remove_in};
 use crate::state::{Fault, State};
 use crate::vars::{Slot, Vars};
-use dp_value::{Bytes, Key, Memory, Text, Value};
+use dp_bytes::{Bytes, Memory, Text};
+use dp_value::{Key, Value};
 use std::mem;
 
 impl State {

@@ -6,8 +6,8 @@ ghost use Rattle.dp_state.specs.States.{first_frame, opening};
 use crate::declarations::Declared;
 use crate::state::{Frame, FrameKind, Frames, State};
 use crate::vars::Vars;
+use dp_bytes::{Bytes, Memory};
 use dp_tree::Bundle;
-use dp_value::{Bytes, Memory};
 use std::alloc::Global;
 
 impl State {

@@ -3,7 +3,7 @@
 use crate::declarations::Declared;
 use crate::moments::FatalKind;
 use crate::vars::Vars;
-use dp_value::Bytes;
+use dp_bytes::Bytes;
 use std::marker::Model;
 
 /// What a frame is of.

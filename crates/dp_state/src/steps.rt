@@ -5,7 +5,7 @@ ghost use Rattle.dp_state.specs.States.{counted, entered, left, on_line, printed
 
 use crate::moments::FatalKind;
 use crate::state::{Fault, Frame, State};
-use dp_value::{Bytes, Memory};
+use dp_bytes::{Bytes, Memory};
 use std::alloc::Global;
 use std::mem;
 

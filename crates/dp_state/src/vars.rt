@@ -8,7 +8,8 @@ ghost use Rattle.std.specs.Map.{keys_of};
 ghost use Rattle.std.specs.Str.{bytes_eq};
 ghost use Rattle.dp_value.specs.Place.{IsAbsent};
 
-use dp_value::{Bytes, Memory, Value};
+use dp_bytes::{Bytes, Memory};
+use dp_value::Value;
 use indexmap::IndexMap;
 use std::alloc::Global;
 use std::marker::Model;

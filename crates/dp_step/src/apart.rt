@@ -6,11 +6,12 @@ ghost use Rattle.dp_step.specs.inner.Apart.{value_in};
 
 use crate::machine::{Came, Machine, Progress};
 use dp_actions::Signal;
+use dp_bytes::Memory;
 use dp_meaning::EVALUATION_LIMIT;
 use dp_small_steps::{AfterValue, Given, Hand, Waiting, Work};
 use dp_state::{FRAME_LIMIT, MomentKind, State};
 use dp_tree::{Bundle, Expression};
-use dp_value::{Memory, Value};
+use dp_value::Value;
 use std::alloc::Global;
 use std::mem;
 

@@ -3,9 +3,10 @@
 use crate::machine::{Came, Machine, halted};
 use dp_actions::{Callee, Signal, look_up, returned};
 use dp_analysis::{all_momentless, is_momentless};
+use dp_bytes::{Bytes, Items};
 use dp_small_steps::{Given, Hand};
 use dp_tree::Expression;
-use dp_value::{Bytes, Items, Value};
+use dp_value::Value;
 
 impl<'p> Machine<'p> {
     ghost use Rattle.std.specs.Prelude.{◌≡◌, true};

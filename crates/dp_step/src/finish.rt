@@ -9,10 +9,11 @@ use crate::statements::is_next;
 use crate::steps::Steps;
 use dp_actions::{Halt, Signal};
 use dp_analysis::DeepNames;
+use dp_bytes::Memory;
 use dp_meaning::Whole;
 use dp_small_steps::{DoTurns, EachTurns, ForSignal, Given, Hand, Head, Turns, Waiting, Work};
 use dp_state::Outcome;
-use dp_value::{Memory, Value};
+use dp_value::Value;
 use std::sync::ledger::Ledger;
 use std::{mem, slice};
 

@@ -7,11 +7,11 @@ ghost use Rattle.dp_step.specs.inner.Moves.{came_of};
 use crate::small::{file_hand, put_hand};
 use crate::steps::Steps;
 use dp_actions::Halt;
+use dp_bytes::Memory;
 use dp_meaning::moment_of;
 use dp_small_steps::{Hand, Waiting};
 use dp_state::{FRAME_LIMIT, Moment, MomentKind, Outcome, State};
 use dp_tree::Bundle;
-use dp_value::Memory;
 use std::alloc::Global;
 use std::sync::ledger::Ledger;
 

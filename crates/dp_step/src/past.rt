@@ -9,11 +9,11 @@ use crate::machine::{Arrival, Came, Machine, Progress, halted};
 use crate::small::put_hand;
 use crate::steps::Steps;
 use dp_analysis::{DeepNames, loud_names};
+use dp_bytes::Memory;
 use dp_meaning::is_quiet;
 use dp_small_steps::{Given, Hand};
 use dp_state::Outcome;
 use dp_tree::Statement;
-use dp_value::Memory;
 use std::sync::ledger::Ledger;
 
 impl<'p> Machine<'p> {

@@ -16,10 +16,11 @@ ghost use Rattle.dp_small_steps.specs.declared.work.Hand.TheVariants as any_hand
 use crate::machine::{Came, Machine, halted};
 use dp_actions::{Signal, enter_call, enter_file, fatal};
 use dp_analysis::all_momentless;
+use dp_bytes::{Items, Memory};
 use dp_small_steps::{Given, Hand, Next, Small, Waiting, Work, first_of, receive};
 use dp_state::{FatalKind, MomentKind};
 use dp_tree::{Bundle, Expression, Function};
-use dp_value::{Items, Memory, Value};
+use dp_value::Value;
 use std::mem;
 
 impl<'p> Machine<'p> {

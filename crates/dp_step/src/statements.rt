@@ -11,10 +11,11 @@ use crate::machine::{Came, Machine, halted};
 use crate::small::put_hand;
 use dp_actions::{Signal, holds};
 use dp_analysis::is_momentless;
+use dp_bytes::Items;
 use dp_small_steps::{AfterValue, ForSignal, Given, Hand, Waiting, Work, begin};
 use dp_state::MomentKind;
 use dp_tree::{Arm, Boxed, Expression, Statement, StatementKind};
-use dp_value::{Items, Value};
+use dp_value::Value;
 
 impl<'p> Machine<'p> {
     ghost use Rattle.std.specs.Prelude.{[], Some};

@@ -12,12 +12,12 @@ ghost use Rattle.dp_value.specs.declared.value.Value.{Value as AnyValue};
 use crate::machine::{Came, Machine, halted};
 use dp_actions::{Signal, holds, last_holds};
 use dp_analysis::{all_momentless, is_momentless};
+use dp_bytes::Items;
 use dp_small_steps::{
     DoTurns, EachTurns, ForSignal, Given, Hand, Head, Turns, Waiting, Work, bind_at, entry_count,
 };
 use dp_state::Outcome;
 use dp_tree::{Expression, Statement};
-use dp_value::Items;
 use std::mem;
 
 impl<'p> Machine<'p> {

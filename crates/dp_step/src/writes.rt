@@ -8,10 +8,11 @@ use crate::apart::evaluation;
 use crate::errors::StepError;
 use crate::machine::Machine;
 use dp_actions::given_keys;
+use dp_bytes::Memory;
 use dp_meaning::{NumberedWrite, write_all};
 use dp_state::{Fault, Path, State};
 use dp_tree::Expression;
-use dp_value::{Memory, Value};
+use dp_value::Value;
 use std::alloc::Global;
 use std::mem;
 

@@ -1,8 +1,8 @@
 //! One thread puts pieces on a post, and another takes them.
 ghost use Rattle.std.specs.Prelude.{◌≡◌, true};
 
+use dp_bytes::Bytes;
 use dp_polled::{Look, Memory, Piece, Polled, Post, PostSeat, Posted};
-use dp_value::Bytes;
 use std::alloc::Global;
 use std::sync::Wait;
 use std::thread::{Threads, join, yield_now};

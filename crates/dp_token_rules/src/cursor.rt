@@ -9,9 +9,9 @@ ghost use Rattle.dp_token_rules.specs.Terminals.{head};
 ghost use Rattle.dp_token_rules.specs.TokenValues as token_values;
 
 use crate::terminal::{Terminal, is_superglobal, same_terminal, terminal_of};
+use dp_bytes::Bytes;
 use dp_grammar::Refusal;
 use dp_lexer::{Token, TokenKind, is_reserved};
-use dp_value::Bytes;
 use std::alloc::Global;
 use std::marker::Model;
 

@@ -7,9 +7,9 @@ ghost use Rattle.dp_token_rules.specs.inner.ListReaders as spec;
 
 use crate::cursor::Tokens;
 use crate::terminal::Terminal;
+use dp_bytes::{Items, Memory};
 use dp_grammar::Refusal;
 use dp_lexer::Word;
-use dp_value::{Items, Memory};
 use std::alloc::Global;
 use std::ops::ControlFlow;
 

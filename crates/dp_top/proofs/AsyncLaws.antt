@@ -18,7 +18,7 @@ use Rattle.dp_program.specs.Programs.{NamesMake, ProgramCaused}
 use Rattle.dp_top.specs.declared.failures.Failure.{Failure}
 use Rattle.dp_top.specs.declared.failures.Failure.TheVariants as failure
 use Rattle.dp_top.specs.declared.failures.Refused.{Refused}
-use Rattle.dp_value.specs.Decimals.{decimal_in}
+use Rattle.dp_bytes.specs.Decimals.{decimal_in}
 use Rattle.dp_words.specs.Words.{Address, Invocation, bound_limit, default_bound, invocation_of, not_zero, with_bound}
 use Rattle.dp_top.specs.Async.{AsyncFails, IsStarved, IsServed, Listens, flow_change, judged_end}
 use Rattle.dp_top.specs.Engine.{IsApart, IsIdle, IsUnused}

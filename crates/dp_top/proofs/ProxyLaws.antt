@@ -17,7 +17,7 @@ use Rattle.dp_crews.specs.declared.errors.AllError.{AllError}
 use Rattle.dp_crews.specs.declared.errors.AllError.TheVariants.{GateFault, NoThread, Memory}
 use Rattle.dp_crews.specs.declared.summaries.Summary.{Summary}
 use Rattle.dp_top.specs.declared.failures.Failure.TheVariants as failure
-use Rattle.dp_value.specs.Decimals.{decimal_in}
+use Rattle.dp_bytes.specs.Decimals.{decimal_in}
 use Rattle.dp_words.specs.Words.{Service, not_zero, served_count_of, served_limit}
 use Rattle.dp_top.specs.Proxy.{CountsGates, HasFailed, IsHalfGated, IsNew, IsRun, IsUnserved, ProxyFails, by_telling, door_of, failure_of}
 use Rattle.dp_top.specs.Links.{IsUngated}

@@ -9,7 +9,7 @@ use Rattle.std.proofs.lemmas.Str.{IsUtf8-from_ascii}
 use Rattle.std.proofs.lemmas.Str.Ascii.{IsAscii-from_all}
 use Rattle.dp_bundle.specs.Bundles.{AreForBundle}
 use Rattle.dp_tree.specs.FileNames.{IsFileName}
-use Rattle.dp_value.specs.Decimals.{decimal_in, is_decimal}
+use Rattle.dp_bytes.specs.Decimals.{decimal_in, is_decimal}
 use Rattle.dp_words.specs.Words.{not_zero, session_count_of, soak_limit}
 use Rattle.dp_top.specs.Soak.{soak_file}
 

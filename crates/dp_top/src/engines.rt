@@ -6,12 +6,12 @@ ghost use Rattle.dp_tree.specs.FileNames.{AreFileNames};
 ghost use Rattle.dp_world.specs.Replays.{Replays};
 ghost use Rattle.dp_world.specs.Tallies.{in_words, tally_of};
 
+use dp_bytes::{Bytes, Memory};
 use dp_engine::{Answer, Session, SessionEnd, Steps};
 use dp_events::Events;
 use dp_outside::Sink;
 use dp_state::Outcome;
 use dp_tree::Bundle;
-use dp_value::{Bytes, Memory};
 use dp_world::{Engines, ReplayError, Tally};
 use std::alloc::Global;
 use std::marker::{Model, PhantomData};

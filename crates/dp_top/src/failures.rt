@@ -6,13 +6,13 @@ ghost use Rattle.dp_top.specs.Failures.{status_of, line_of, kind_name, fatal_lin
 ghost use Rattle.dp_top.specs.Statuses.{memory_status};
 
 use crate::statuses;
+use dp_bytes::{Bytes, Memory};
 use dp_conversation::put_unless_empty;
 use dp_lexer::LexError;
 use dp_outside::Sink;
 use dp_parse::ParseError;
 use dp_state::{FatalKind, KILLED_STATUS, UNFINISHED_STATUS};
 use dp_tree::FILE_LIMIT;
-use dp_value::{Bytes, Memory};
 use std::alloc::{AllocError, AllocFailed, Global};
 
 /// Why the parser refuses a file.

@@ -1,7 +1,7 @@
 //! Lines of words and numbers.
 ghost use Rattle.std.specs.Prelude.{◌≡◌, ◌++◌, decimal, IfOk};
 
-use dp_value::Memory;
+use dp_bytes::Memory;
 use std::alloc::Global;
 
 /// Text that goes on with a word and a number.

@@ -15,10 +15,10 @@ ghost use Rattle.dp_top.specs.inner.Proxied.{AreShut, Came, Ran, UnsaidSo};
 
 use crate::failures::{Failure, Refused};
 use crate::numbers::with_number;
+use dp_bytes::{Bytes, Memory};
 use dp_crews::{AllError, Sizes, Summary, serve_all};
 use dp_outside::{Net, Sink, Spawner};
 use dp_registry::Registry;
-use dp_value::{Bytes, Memory};
 use dp_words::Proxy;
 use std::alloc::Global;
 use std::marker::Brand;

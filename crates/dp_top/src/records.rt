@@ -19,11 +19,11 @@ use crate::objects::Objects;
 use crate::run::refusal_of_program;
 use crate::sessions::judge_end;
 use dp_audit::{AuditError, Ended, TapeEnd, Verdict};
+use dp_bytes::{Bytes, Memory};
 use dp_conversation::BYTE_LIMIT;
 use dp_outside::{Net, Shelf, Sink, Source, Spawner};
 use dp_program::fetch_program;
 use dp_tree::Bundle;
-use dp_value::{Bytes, Memory};
 use dp_words::{Program, Talk};
 use std::alloc::Global;
 

@@ -2,7 +2,7 @@
 
 ghost use Rattle.std.specs.Prelude.{◌≡◌, IfOk};
 
-use dp_value::Memory;
+use dp_bytes::Memory;
 use std::alloc::Global;
 use std::marker::Model;
 

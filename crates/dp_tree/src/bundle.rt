@@ -2,7 +2,7 @@
 
 use crate::indexed::Files;
 use crate::tree::File;
-use dp_value::Bytes;
+use dp_bytes::Bytes;
 
 /// The most bytes that a file may have.
 pub const FILE_LIMIT: usize = 1_048_576;

@@ -9,7 +9,7 @@ ghost use Rattle.dp_tree.specs.Doubles.{HasNoDouble, IsDouble};
 use crate::builtins::builtin_of;
 use crate::names::lowered;
 use crate::tree::Function;
-use dp_value::{Bytes, Memory};
+use dp_bytes::{Bytes, Memory};
 use indexmap::IndexSet;
 use std::alloc::Global;
 

@@ -8,7 +8,7 @@ ghost use Rattle.dp_tree.specs.Files.{file_named, function_at, function_count as
 use crate::bundle::{Bundle, FunctionRef};
 use crate::names::AnyCase;
 use crate::tree::Function;
-use dp_value::Memory;
+use dp_bytes::Memory;
 
 impl Bundle {
     /// The number of the file of this name, by exact equality. Takes no memory: `Memory` comes only where there are

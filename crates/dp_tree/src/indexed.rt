@@ -9,7 +9,7 @@ ghost use Rattle.dp_tree.specs.inner.Indexes.{AreIndexed, IsIndex, first_of, wit
 use crate::bundle::BundleFile;
 use crate::names::lowered;
 use crate::tree::Function;
-use dp_value::{Bytes, Items, Memory};
+use dp_bytes::{Bytes, Items, Memory};
 use indexmap::IndexMap;
 use std::alloc::Global;
 use std::marker::Model;

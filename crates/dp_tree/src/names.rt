@@ -3,7 +3,7 @@
 ghost use Rattle.std.specs.Prelude.{◌≡◌, IfOk};
 ghost use Rattle.std.specs.Str.{str_to_ascii_lowercase};
 
-use dp_value::{Bytes, Memory};
+use dp_bytes::{Bytes, Memory};
 use std::alloc::Global;
 use std::marker::Model;
 

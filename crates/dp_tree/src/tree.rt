@@ -3,7 +3,7 @@
 
 use crate::boxed::Boxed;
 use crate::operators::{BinaryOp, UnaryOp};
-use dp_value::{Bytes, Items};
+use dp_bytes::{Bytes, Items};
 
 /// A file: its statements and its functions, each in their order, and how many lines it has (one more than its line
 /// feeds).

@@ -6,9 +6,7 @@ pub mod RowLemmas
 pub mod RisingLemmas
 pub mod TableLemmas
 pub mod BehindLemmas
-pub mod IntTextLemmas
 pub mod ComparisonLemmas
 pub mod WriteLemmas
 pub mod AgainLemmas
-pub mod DecimalLemmas
 pub mod RemovalLemmas

@@ -6,7 +6,7 @@ use Rattle.std.specs.Option.{option_map_or}
 use Rattle.dp_value.specs.declared.key.Key.{Key}
 use Rattle.dp_value.specs.declared.key.Key.TheVariants.{Int, Text}
 use Rattle.dp_value.specs.Data.{Data, null, boolean, integer, text, array}
-use Rattle.dp_value.specs.IntText.{int_of_text}
+use Rattle.dp_bytes.specs.IntText.{int_of_text}
 
 abbrev pub key_of_text : List ℕ → Key
 key_of_text bytes = option_map_or Int (int_of_text bytes) (Text bytes)

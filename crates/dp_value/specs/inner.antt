@@ -1,5 +1,4 @@
 -- How values are kept and told to the logic. No public clause cites these.
-pub mod Texts
 pub mod Codes
 pub mod Sizes
 pub mod Behind

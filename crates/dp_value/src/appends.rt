@@ -9,7 +9,8 @@ ghost use Rattle.dp_value.specs.Entry.{write_result, IsCause};
 
 use crate::refusals::refusal;
 use crate::writes::write;
-use crate::{Key, Memory, Text, Value, WriteError};
+use crate::{Key, Value, WriteError};
+use dp_bytes::{Memory, Text};
 use std::alloc::Global;
 
 /// Writes a text with a piece behind it under `keys`, without keys in place of the value itself, and gives it. What

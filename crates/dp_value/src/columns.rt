@@ -11,7 +11,8 @@ ghost use Rattle.dp_value.specs.inner.Writes.{IsTooMuch};
 use crate::kept::Kept;
 use crate::rows::{nth_value, replace_nth, store, take_out};
 use crate::value::Columns;
-use crate::{Key, Memory, Value, ValueError, WEIGHT_LIMIT, weight};
+use crate::{Key, Value, ValueError, WEIGHT_LIMIT, weight};
+use dp_bytes::Memory;
 use std::alloc::Global;
 use std::rc::Rc;
 

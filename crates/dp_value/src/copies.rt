@@ -3,7 +3,8 @@
 ghost use Rattle.std.specs.Prelude.{◌≡◌, IfOk};
 
 use crate::value::Columns;
-use crate::{Memory, PhpArray, Value};
+use crate::{PhpArray, Value};
+use dp_bytes::Memory;
 use std::clone::Clone;
 
 impl Value {

@@ -15,7 +15,8 @@ ghost use Rattle.dp_value.specs.inner.Left.{left, row_at};
 ghost use Rattle.dp_value.specs.inner.Rising.{IsRising, integer_order};
 ghost use Rattle.dp_value.specs.inner.Rows.{AreKeys, GoesLast, Rises};
 
-use crate::{Key, Memory};
+use crate::Key;
+use dp_bytes::Memory;
 use indexmap::IndexSet;
 use std::alloc::Global;
 use std::cmp::Ordering;

@@ -2,7 +2,8 @@
 
 ghost use Rattle.std.specs.Prelude.{◌≡◌, IfOk};
 
-use crate::{Memory, Text, Value};
+use crate::Value;
+use dp_bytes::{Memory, Text};
 
 /// A key of an array: a 64-bit integer, or a byte string that does not spell one.
 /// Source: the PHP manual, "Arrays".

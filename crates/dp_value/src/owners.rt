@@ -4,8 +4,9 @@ ghost use Rattle.std.specs.Prelude.{◌≡◌, ◌<◌, length, IfOk};
 ghost use Rattle.std.specs.Borrow.{sem};
 ghost use Rattle.dp_value.specs.Owners.{LendsOwn};
 
+use crate::PhpArray;
 use crate::value::Columns;
-use crate::{Memory, PhpArray};
+use dp_bytes::Memory;
 use std::rc::Rc;
 
 impl PhpArray {

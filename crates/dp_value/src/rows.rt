@@ -19,7 +19,8 @@ ghost use Rattle.dp_value.specs.inner.Left.{left};
 ghost use Rattle.dp_value.specs.inner.Rows.{left_in, AreNull, AreRows, GoesLast};
 
 use crate::kept::{Kept, nth, row};
-use crate::{Key, Memory, Value, weight};
+use crate::{Key, Value, weight};
+use dp_bytes::Memory;
 use std::mem;
 
 /// The value at a position among those that are left.

@@ -8,7 +8,8 @@ ghost use Rattle.dp_value.specs.Table.{weight_limit, largest_int, IsTable};
 
 use crate::columns::{first_entry, set_in};
 use crate::kept::Kept;
-use crate::{Key, Memory, Text, ValueError};
+use crate::{Key, ValueError};
+use dp_bytes::{Memory, Text};
 use std::alloc::Global;
 use std::marker::Model;
 use std::rc::Rc;

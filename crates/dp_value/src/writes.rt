@@ -10,7 +10,8 @@ ghost use Rattle.dp_value.specs.inner.Writes.{written_in};
 
 use crate::refusals::{next_key, refusal};
 use crate::value::Columns;
-use crate::{Key, Memory, PhpArray, Value, WriteError, weight};
+use crate::{Key, PhpArray, Value, WriteError, weight};
+use dp_bytes::Memory;
 use std::alloc::Global;
 use std::rc::Rc;
 

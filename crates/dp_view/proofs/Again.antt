@@ -12,7 +12,7 @@ use Rattle.dp_lexer.specs.Pieces.{IsName, longest_name}
 use Rattle.dp_state.specs.declared.moments.Path.{Path}
 use Rattle.dp_value.specs.declared.key.Key.{Key}
 use Rattle.dp_value.specs.declared.key.Key.TheVariants.{Int}
-use Rattle.dp_value.specs.IntText.{int_of_text, is_int_form, is_in_64_bits, is_positive, without_minus}
+use Rattle.dp_bytes.specs.IntText.{int_of_text, is_int_form, is_in_64_bits, is_positive, without_minus}
 use Rattle.dp_value.specs.KeyOf.{key_of_text}
 use Rattle.dp_view.specs.Grammar.{Repeated, Dollar, IsQuote, is_plain, pair_of, Within, Quoted, Inner, Index, spelt}
 use Rattle.dp_view.specs.NameReader.{◌>>=◌, run_at, behind, without_dollar, name_at, items_at, pair_at, byte_at, quoted_at, is_int_byte, int_at, key_at, index_at, keys_at, path_at}

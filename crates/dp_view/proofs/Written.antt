@@ -7,9 +7,9 @@ use Rattle.std.proofs.lemmas.List.{append-nil}
 use Rattle.dp_state.specs.declared.moments.Path.{Path}
 use Rattle.dp_value.specs.declared.key.Key.{Key}
 use Rattle.dp_value.specs.declared.key.Key.TheVariants.{Int, Text}
-use Rattle.dp_value.specs.IntText.{int_of_text}
+use Rattle.dp_bytes.specs.IntText.{int_of_text}
 use Rattle.dp_value.specs.KeyOf.{key_of_text}
-use Rattle.dp_value.specs.Quotes.{in_quotes}
+use Rattle.dp_bytes.specs.Quotes.{in_quotes}
 use Rattle.dp_view.specs.Grammar.{Dollar, Repeated, Within, is_plain, Quoted, Inner, Index, spelt, HasIndex, HasFullName}
 use Rattle.dp_view.specs.Names.{index_of, entry_name, full_name, sigil, variable_name}
 use Rattle.dp_view.specs.inner.Longer.{with_key}

@@ -6,7 +6,7 @@ use Rattle.dp_lexer.specs.Pieces.{IsName, longest_name}
 use Rattle.dp_state.specs.declared.moments.Path.{Path}
 use Rattle.dp_value.specs.declared.key.Key.{Key}
 use Rattle.dp_value.specs.declared.key.Key.TheVariants.{Int, Text}
-use Rattle.dp_value.specs.IntText.{int_of_text, is_in_64_bits}
+use Rattle.dp_bytes.specs.IntText.{int_of_text, is_in_64_bits}
 use Rattle.dp_value.specs.KeyOf.{key_of_text}
 use Rattle.dp_grammar.specs.Parts.{Part}
 pub use Rattle.dp_grammar.specs.Parts.{Joined, ◌>>◌, Mark, Repeated}

@@ -8,7 +8,7 @@ use Rattle.dp_lexer.specs.Pieces.{longest_name}
 use Rattle.dp_state.specs.declared.moments.Path.{Path}
 use Rattle.dp_value.specs.declared.key.Key.{Key}
 use Rattle.dp_value.specs.declared.key.Key.TheVariants as a_key
-use Rattle.dp_value.specs.IntText.{int_of_text}
+use Rattle.dp_bytes.specs.IntText.{int_of_text}
 use Rattle.dp_value.specs.KeyOf.{key_of_text}
 use Rattle.dp_view.specs.Grammar.{pair_of}
 pub use Rattle.dp_grammar.specs.Prefixes.{◌>>=◌, run_at, onward}

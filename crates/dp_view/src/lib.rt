@@ -16,7 +16,7 @@ mod stacks;
 mod values;
 mod variables;
 
-pub use dp_value::Memory;
+pub use dp_bytes::Memory;
 pub use errors::ViewError;
 pub use laws::{full_names_are_read_back, names_have_one_path};
 pub use name_reader::read_name;

@@ -9,9 +9,10 @@ ghost use Rattle.dp_view.specs.inner.Items.{key_meant, keys_taken, text_taken};
 use crate::Memory;
 use crate::errors::ViewError;
 use crate::spelling::{Spelling, byte, index, parts};
+use dp_bytes::{Bytes, Items, Text, int_of_text};
 use dp_packet::ErrorCode;
 use dp_state::Path;
-use dp_value::{Bytes, Items, Key, Text, int_of_text};
+use dp_value::Key;
 use std::alloc::Global;
 
 /// The bytes between quotes, behind the opening one.

@@ -6,8 +6,9 @@ ghost use Rattle.dp_view.specs.Names as spec;
 ghost use Rattle.dp_view.specs.Names.{index_of};
 
 use crate::Memory;
+use dp_bytes::{Bytes, put_in_quotes};
 use dp_state::Path;
-use dp_value::{Bytes, Key, put_in_quotes};
+use dp_value::Key;
 use itoa::Buffer;
 use std::alloc::Global;
 

@@ -7,9 +7,10 @@ ghost use Rattle.dp_view.specs.Answers.{AnswersSurely};
 ghost use Rattle.dp_view.specs.Places as spec;
 
 use crate::errors::ViewError;
+use dp_bytes::Bytes;
 use dp_packet::ErrorCode;
 use dp_state::{Path, Slot, State, Vars};
-use dp_value::{Bytes, Key, Value};
+use dp_value::{Key, Value};
 
 /// The variables of the context with this id.
 fn variables_of(state: &State, level: usize, id: u32) -> Option<&Vars>

@@ -13,9 +13,10 @@ use crate::errors::ViewError;
 use crate::names::{entry_name, full_name, key_text, own_name};
 use crate::paging::Paging;
 use crate::places::value_at;
+use dp_bytes::{Bytes, Items};
 use dp_packet::{Property, Shape};
 use dp_state::{Path, State};
-use dp_value::{Bytes, Items, Key, PhpArray, Value};
+use dp_value::{Key, PhpArray, Value};
 use std::alloc::Global;
 
 /// The first bytes of a text, at most so many.

@@ -8,8 +8,8 @@ ghost use Rattle.dp_view.specs.NameReader.{byte_at, index_at, int_at, key_at, ke
 ghost use Rattle.dp_view.specs.inner.Items.{behind_items, key_meant, keys_taken, path_taken};
 
 use crate::sorts::{Sort, is_start, run};
+use dp_bytes::int_of_text;
 use dp_lexer::NAME_LIMIT;
-use dp_value::int_of_text;
 
 /// How a key is spelt between brackets.
 #[derive(Clone, Copy, Debug)]

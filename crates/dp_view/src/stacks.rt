@@ -7,10 +7,10 @@ ghost use Rattle.dp_view.specs.inner.Additions.{line_of};
 
 use crate::Memory;
 use crate::errors::ViewError;
+use dp_bytes::{Bytes, Items};
 use dp_packet::{ErrorCode, StackLine, file_uri};
 use dp_state::{Frame, FrameKind, State};
 use dp_tree::Bundle;
-use dp_value::{Bytes, Items};
 use std::alloc::Global;
 
 /// Where a frame is: `{main}`, the function's name as declared, or `include`.

@@ -9,8 +9,9 @@ ghost use Rattle.dp_view.specs.Values as spec;
 
 use crate::Memory;
 use base64::engine::general_purpose::STANDARD;
+use dp_bytes::{Bytes, Items};
 use dp_packet::{flag, put_attribute};
-use dp_value::{Bytes, Items, Value};
+use dp_value::Value;
 use itoa::Buffer;
 use std::alloc::Global;
 

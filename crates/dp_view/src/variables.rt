@@ -18,10 +18,11 @@ use crate::names::variable_name;
 use crate::paging::Paging;
 use crate::places::{shown_variables, slot_value};
 use crate::properties::property_of;
+use dp_bytes::{Bytes, Items};
 use dp_packet::Property;
 use dp_state::{State, Vars};
 use dp_tree::Bundle;
-use dp_value::{Bytes, Items, Value};
+use dp_value::Value;
 use std::alloc::Global;
 
 /// A context by its name and id.

@@ -8,6 +8,6 @@ mod stacks;
 mod values;
 mod views;
 
-pub use dp_value::Memory;
+pub use dp_bytes::Memory;
 pub use dp_view::ViewError;
 pub use views::view_response;

@@ -9,9 +9,9 @@ ghost use Rattle.dp_view_commands.specs.Views as spec;
 ghost use Rattle.dp_view_commands.specs.inner.Responses.{around};
 ghost use Rattle.dp_wire.specs.Frames.{packet_limit};
 
+use dp_bytes::{Bytes, Items, Memory};
 use dp_command::Addressee;
 use dp_packet::{Body, ErrorCode, Packet, Response, put_attribute, short_size, text_size};
-use dp_value::{Bytes, Items, Memory};
 use dp_view::ViewError;
 use dp_wire::PACKET_LIMIT;
 use itoa::Buffer;

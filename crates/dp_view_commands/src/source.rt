@@ -7,11 +7,11 @@ ghost use Rattle.dp_view_commands.specs.Views as spec;
 
 use crate::packets::{encoded, limited, respond};
 use base64::engine::general_purpose::STANDARD;
+use dp_bytes::{Bytes, Memory};
 use dp_command::{Addressee, SourceRange};
 use dp_file_uris::requested_file;
 use dp_packet::{Body, ErrorCode, Response};
 use dp_tree::Bundle;
-use dp_value::{Bytes, Memory};
 use dp_view::{ViewError, source_lines};
 use std::alloc::Global;
 

@@ -8,11 +8,11 @@ ghost use Rattle.dp_view_commands.specs.Results.{Answers};
 ghost use Rattle.dp_view_commands.specs.Views as spec;
 
 use crate::packets::{limited, none, number, respond};
+use dp_bytes::{Bytes, Items, Memory};
 use dp_command::Addressee;
 use dp_packet::{Body, Response};
 use dp_state::State;
 use dp_tree::Bundle;
-use dp_value::{Bytes, Items, Memory};
 use dp_view::{ViewError, contexts, stack};
 use std::alloc::Global;
 

@@ -10,12 +10,12 @@ ghost use Rattle.dp_view_commands.specs.Views as spec;
 ghost use Rattle.dp_view.specs.Answers.{Gives};
 
 use crate::packets::{context_room, limited, none, number, property_room, respond};
+use dp_bytes::{Bytes, Items, Memory};
 use dp_command::{Addressee, PropertyPlace};
 use dp_features::Features;
 use dp_packet::{Body, Property, Response};
 use dp_state::State;
 use dp_tree::Bundle;
-use dp_value::{Bytes, Items, Memory};
 use dp_view::{Paging, ShownValue, ViewError, named_value};
 use dp_view_limits::{limited_context, limited_property};
 use std::alloc::Global;

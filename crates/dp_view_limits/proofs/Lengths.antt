@@ -14,7 +14,7 @@ use Rattle.dp_packet.proofs.PropertyTexts.{property_is}
 use Rattle.dp_packet.proofs.SizeLaws.{attributes_length}
 use Rattle.dp_state.specs.declared.moments.Path.{Path}
 use Rattle.dp_value.specs.declared.key.Key.{Key}
-use Rattle.dp_value.specs.Quotes.{in_quotes}
+use Rattle.dp_bytes.specs.Quotes.{in_quotes}
 use Rattle.dp_view.specs.Names.{full_name, index_of, int_index, sigil, text_index, variable_name}
 use Rattle.dp_view_limits.specs.inner.Sizes.{property_frame, text_size}
 

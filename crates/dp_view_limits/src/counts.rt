@@ -5,7 +5,7 @@ ghost use Rattle.std.specs.Prelude.{◌≡◌, ◌-◌, flat_map, length};
 ghost use Rattle.std.specs.Fmt.{signed_decimal};
 ghost use Rattle.dp_markup.specs.Escapes.{escaped};
 ghost use Rattle.dp_packet.specs.Parts.{base64};
-ghost use Rattle.dp_value.specs.Quotes.{in_quotes};
+ghost use Rattle.dp_bytes.specs.Quotes.{in_quotes};
 ghost use Rattle.dp_view.specs.Names as names;
 ghost use Rattle.dp_view_limits.specs.inner.Sizes as spec;
 

@@ -12,10 +12,11 @@ ghost use Rattle.dp_view_limits.specs.Limits as spec;
 ghost use Rattle.dp_view_limits.specs.inner.AtPaths.{limited_at};
 
 use crate::sizes::{property_fits, shown_fits, variables_fit};
+use dp_bytes::Items;
 use dp_packet::{ErrorCode, Property};
 use dp_state::{Path, State};
 use dp_tree::Bundle;
-use dp_value::{Items, Value};
+use dp_value::Value;
 use dp_view::{Paging, ViewError, context, named_path, property, shown, shown_variables, value_at};
 use std::alloc::Global;
 

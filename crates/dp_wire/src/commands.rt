@@ -9,7 +9,7 @@ ghost use Rattle.dp_wire.specs.Received.{last_place};
 use crate::WireError;
 use crate::held::Held;
 use crate::nuls::first_nul;
-use dp_value::Memory;
+use dp_bytes::Memory;
 use std::alloc::Global;
 use std::marker::Model;
 use std::ops::Range;

@@ -2,7 +2,7 @@
 
 ghost use Rattle.std.specs.Prelude.{◌≡◌, ◌≤◌, [], ◌++◌, List, ℕ, length, drop, IfOk, OnOk, OnErr};
 
-use dp_value::Memory;
+use dp_bytes::Memory;
 use std::alloc::Global;
 use std::marker::Model;
 

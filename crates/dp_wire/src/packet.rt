@@ -3,7 +3,7 @@
 ghost use Rattle.std.specs.Prelude.{◌≡◌, length, IfOk};
 ghost use Rattle.dp_wire.specs.Frames.{IsPacketText, packet_frame};
 
-use dp_value::{Bytes, Memory};
+use dp_bytes::{Bytes, Memory};
 use std::alloc::Global;
 
 /// The frame of a packet's text: its length in decimal, a NUL, the text, a NUL.

@@ -10,7 +10,7 @@ ghost use Rattle.dp_wire.specs.Received.{IsCause, place_of, last_place};
 use crate::WireError;
 use crate::held::Held;
 use crate::length::{Length, read_length};
-use dp_value::Memory;
+use dp_bytes::Memory;
 use std::alloc::Global;
 use std::marker::Model;
 use std::ops::Range;

@@ -9,7 +9,7 @@ use Rattle.std.proofs.lemmas.Bool.Decides.{nat_tests}
 use Rattle.clap.specs.Walk.{Text, answers_to}
 use Rattle.dp_outside.specs.Names.{IsKey}
 use Rattle.dp_words.specs.Words.{Invocation, IsInvocation, Task, IsFileWord, run, talk, tape, audit, dap, engine, async, ide, replay, soak, proxy, show, invocation_of, bound_limit, bound_of, default_bound, is_option, not_zero, port_limit, port_of, seed_limit, served_count_of, served_limit, session_count_of, soak_limit, with_bound}
-use Rattle.dp_value.specs.Decimals.{decimal_in}
+use Rattle.dp_bytes.specs.Decimals.{decimal_in}
 use Rattle.dp_words.specs.Plain.{are_bounded, are_plain, has_bound, is_plain}
 use Rattle.dp_words.specs.inner.Given.{bounded}
 use Rattle.dp_words.proofs.Leaves.{HasFault, both, files, is_plain_bound}

@@ -4,8 +4,8 @@ use Rattle.std.specs.List.{list_all}
 use Rattle.std.specs.Str.{bytes_eq}
 use Rattle.dp_tree.specs.FileNames.{file_count_limit, file_name_limit}
 use Rattle.dp_outside.specs.Names.{IsHost, IsKey}
-use Rattle.dp_value.specs.Names.{without_slash}
-use Rattle.dp_value.specs.Decimals.{decimal_in}
+use Rattle.dp_bytes.specs.Names.{without_slash}
+use Rattle.dp_bytes.specs.Decimals.{decimal_in}
 use Rattle.dp_wire.specs.Frames.{has_no_nul}
 
 -- the name of a file: 1 to 255 bytes without NUL

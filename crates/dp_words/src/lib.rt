@@ -6,7 +6,7 @@ mod parser;
 mod plain;
 mod words;
 
-pub use dp_value::Memory;
+pub use dp_bytes::Memory;
 pub use words::{
     Address, Command, DEFAULT_BOUND, Engine, Ide, Program, Proxy, Replay, Soak, Talk, read_words,
 };

@@ -3,12 +3,12 @@
 ghost use Rattle.std.specs.Prelude.{◌≡◌, ◌↔◌, true, IsTrue, not, map, All, string_bytes};
 ghost use Rattle.std.specs.List.{list_all};
 ghost use Rattle.std.specs.Str.{bytes_eq};
-ghost use Rattle.dp_value.specs.Names.{without_slash as bare};
+ghost use Rattle.dp_bytes.specs.Names.{without_slash as bare};
 ghost use Rattle.dp_wire.specs.Frames.{has_no_nul};
 ghost use Rattle.dp_words.specs.Words.{AreFileWords, IsFileName, IsFileWord, are_apart as all_apart, is_option};
 
+use dp_bytes::are_alike;
 use dp_tree::{FILE_COUNT_LIMIT, FILE_NAME_LIMIT};
-use dp_value::are_alike;
 
 /// Whether the bytes are the name of a file.
 pub(crate) fn is_file_name(name: &[u8]) -> bool

@@ -11,8 +11,8 @@ ghost use Rattle.dp_words.specs.inner.Shapes as shape;
 
 use clap::error::ErrorKind;
 use clap::{Arg, ArgAction, ArgMatches, Command, Error};
+use dp_bytes::Memory;
 use dp_tree::FILE_COUNT_LIMIT;
-use dp_value::Memory;
 use std::alloc::{AllocError, Global};
 
 /// One word, by its name.

@@ -6,7 +6,7 @@ ghost use Rattle.clap.specs.Words.{first_of, found_of, rows_of};
 ghost use Rattle.dp_words.specs.Words.{AreFileWords, Invocation, IsFileWord, IsHostWord, IsInvocation, IsSession};
 ghost use Rattle.dp_words.specs.Words.{Task, bound_of as bound_word, port_of, session_count_of, seed_limit};
 ghost use Rattle.dp_words.specs.Words.{served_count_of};
-ghost use Rattle.dp_value.specs.Decimals.{decimal_in};
+ghost use Rattle.dp_bytes.specs.Decimals.{decimal_in};
 ghost use Rattle.dp_words.specs.Commands.{invocation_seen, task_of};
 ghost use Rattle.dp_words.specs.Plain.{are_plain};
 ghost use Rattle.dp_words.specs.inner.Given.{bound_given};
@@ -16,8 +16,8 @@ use crate::names::{are_files, is_file, is_option};
 use crate::parser::{files_of, parse, word_of};
 use crate::plain::are_plain;
 use clap::ArgMatches;
+use dp_bytes::{Memory, decimal};
 use dp_outside::{Host, KEY_LIMIT, is_name};
-use dp_value::{Memory, decimal};
 use std::alloc::Global;
 
 /// A program that is asked for: how many moments it may have, and the names of its files.

@@ -8,9 +8,9 @@ ghost use Rattle.dp_world.specs.inner.EngineStates.{Serves};
 
 use crate::engines::Engines;
 use crate::lent::lend;
+use dp_bytes::{Bytes, Memory};
 use dp_conversation::{Answer, append_packets};
 use dp_state::Outcome;
-use dp_value::{Bytes, Memory};
 use dp_wire::packet_bytes;
 use std::alloc::Global;
 

@@ -6,9 +6,9 @@ ghost use Rattle.dp_outside.specs.Names.{IsKey};
 ghost use Rattle.dp_wire.specs.Frames.{IsCommand, IsPacketText};
 ghost use Rattle.dp_world.specs.Alone.{Engines as Known};
 
+use dp_bytes::{Bytes, Memory};
 use dp_conversation::Answer;
 use dp_state::Outcome;
-use dp_value::{Bytes, Memory};
 use std::alloc::Global;
 
 /// The engines of a program: they answer commands, each in a session of its own.

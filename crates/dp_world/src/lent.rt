@@ -6,8 +6,8 @@ ghost use Rattle.dp_conversation.specs.Folds.{reply_of};
 ghost use Rattle.dp_conversation.specs.Growth.{served};
 
 use crate::engines::Engines;
+use dp_bytes::Memory;
 use dp_conversation::{Answer, Conversation, Responder};
-use dp_value::Memory;
 use std::alloc::Global;
 use std::marker::Model;
 

@@ -5,9 +5,9 @@ ghost use Rattle.dp_state.specs.Statuses.{status};
 ghost use Rattle.dp_world.specs.Transcript as spec;
 
 use crate::engine::Ended;
+use dp_bytes::Memory;
 use dp_registry::Refusal;
 use dp_state::status;
-use dp_value::Memory;
 use itoa::Buffer;
 
 // ---- parts of a line

@@ -16,9 +16,9 @@ ghost use Rattle.dp_world.specs.inner.KeptLinks.{IsShownAt, IsReadyAt, Passes, L
 use crate::engine::begin;
 use crate::engines::Engines;
 use crate::shown::{Shown, pass_on};
+use dp_bytes::{Bytes, Memory};
 use dp_events::{Act, Event};
 use dp_proxy::{Act as ProxyAct, Effect};
-use dp_value::{Bytes, Memory};
 use indexmap::IndexMap;
 use std::alloc::Global;
 

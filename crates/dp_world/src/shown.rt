@@ -5,8 +5,8 @@ ghost use Rattle.dp_world.specs.inner.Changes.{IsReadable, Reads, replied, recei
 
 use crate::engine::{Engine, take_in};
 use crate::engines::Engines;
+use dp_bytes::{Bytes, Memory};
 use dp_proxy::{Effect, Refusal};
-use dp_value::{Bytes, Memory};
 use std::alloc::Global;
 
 /// What the transcript shows of a link that was made.

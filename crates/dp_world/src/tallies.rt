@@ -10,9 +10,9 @@ use crate::engines::Engines;
 use crate::numbers::{NOTHING, Tally, both};
 use crate::shown::Shown;
 use crate::world::follow;
+use dp_bytes::Memory;
 use dp_events::Events;
 use dp_lanes::{LaneKind, count_frames};
-use dp_value::Memory;
 use indexmap::IndexMap;
 use std::alloc::Global;
 

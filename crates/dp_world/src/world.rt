@@ -10,9 +10,9 @@ ghost use Rattle.std.specs.Map.{keys_of};
 use crate::engines::Engines;
 use crate::links::{brought, make, makes, pass};
 use crate::shown::Shown;
+use dp_bytes::Memory;
 use dp_events::Event;
 use dp_proxy::{Event as ProxyEvent, Proxy, ProxyError};
-use dp_value::Memory;
 use indexmap::IndexMap;
 use std::alloc::Global;
 

@@ -14,9 +14,9 @@ use crate::errors::ReplayError;
 use crate::lines::{admission, refusal, registration, service};
 use crate::shown::Shown;
 use crate::world::follow;
+use dp_bytes::Memory;
 use dp_events::Events;
 use dp_outside::Sink;
-use dp_value::Memory;
 use indexmap::IndexMap;
 use std::alloc::Global;
 

@@ -17,7 +17,7 @@ use Rattle.dp_state.specs.declared.state.State.{State}
 use Rattle.dp_tree.specs.declared.tree.Expression.{Expression}
 use Rattle.dp_value.specs.declared.value.Value.{Value}
 use Rattle.dp_value.specs.declared.value.Value.TheVariants as variant
-use Rattle.dp_value.specs.IntText.{int_of_text}
+use Rattle.dp_bytes.specs.IntText.{int_of_text}
 use Rattle.dp_packet.specs.declared.error_codes.ErrorCode.{ErrorCode}
 use Rattle.dp_packet.specs.declared.error_codes.ErrorCode.TheVariants.{InvalidOptions, ErrorEvaluatingCode, CannotGetProperty}
 use Rattle.dp_view.specs.Answers.{and_then}

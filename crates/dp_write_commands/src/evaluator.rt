@@ -3,9 +3,10 @@
 ghost use Rattle.std.specs.Prelude.{◌≡◌, IfOk, option_map};
 ghost use Rattle.dp_meaning.specs.Writes.{evaluated, evaluation_setting};
 
+use dp_bytes::Memory;
 use dp_state::State;
 use dp_tree::{Bundle, Expression};
-use dp_value::{Memory, Value};
+use dp_value::Value;
 use std::alloc::Global;
 
 /// What evaluates expressions at a moment.

@@ -8,6 +8,6 @@ mod requests;
 mod responses;
 
 pub use commands::{Written, write_response};
-pub use dp_value::Memory;
+pub use dp_bytes::Memory;
 pub use dp_view::ViewError;
 pub use evaluator::Evaluator;

@@ -6,9 +6,10 @@ ghost use Rattle.dp_state.specs.Places.{assigned, given_keys as all_given};
 ghost use Rattle.dp_write_commands.specs.inner.Writes.{Puts};
 
 use dp_actions::given_keys;
+use dp_bytes::Memory;
 use dp_packet::ErrorCode;
 use dp_state::{Fault, Path, State};
-use dp_value::{Key, Memory, Value};
+use dp_value::{Key, Value};
 use dp_view::ViewError;
 use std::alloc::Global;
 

@@ -6,13 +6,14 @@ ghost use Rattle.dp_view.specs.Named.{named_path as path_of_name};
 ghost use Rattle.dp_write_commands.specs.Requests as spec;
 ghost use Rattle.dp_write_commands.specs.inner.Writes.{Finds, IsTree, error_of, value_of_given};
 
+use dp_bytes::{Bytes, Memory, Text, int_of_text};
 use dp_command::{PropertyPlace, PropertySet};
 use dp_packet::ErrorCode;
 use dp_parse::{ParseError, parse_expression};
 use dp_state::{Path, State};
 use dp_token_rules::is_superglobal;
 use dp_tree::Expression;
-use dp_value::{Bytes, Memory, Text, Value, int_of_text};
+use dp_value::Value;
 use dp_view::{ViewError, named_path};
 use dp_wire::COMMAND_LIMIT;
 use std::alloc::Global;

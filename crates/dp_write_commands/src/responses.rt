@@ -8,10 +8,11 @@ ghost use Rattle.dp_write_commands.specs.Responses as spec;
 ghost use Rattle.dp_meaning.specs.inner.WriteAnswers.{answer_by};
 ghost use Rattle.dp_write_commands.specs.inner.Writes.{Finds, around};
 
+use dp_bytes::{Bytes, Items, Memory};
 use dp_command::Addressee;
 use dp_features::Features;
 use dp_packet::{Body, ErrorCode, Property, Response, put_attribute, short_size};
-use dp_value::{Bytes, Items, Memory, Value};
+use dp_value::Value;
 use dp_view::{Paging, ViewError};
 use dp_view_limits::limited_shown;
 use dp_wire::PACKET_LIMIT;

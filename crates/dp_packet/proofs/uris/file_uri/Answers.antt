@@ -4,7 +4,7 @@ use Rattle.std.proofs.lemmas.List.Elements.{All-from_get_or}
 use Rattle.percent_encoding.specs.Percent.{percent_encode}
 use Rattle.dp_packet.specs.declared.uris.TheConstants.{ESCAPED}
 use Rattle.dp_packet.specs.Uris.{file_uri}
-use Rattle.dp_value.specs.Names.{without_slash}
+use Rattle.dp_bytes.specs.Names.{without_slash}
 use Rattle.dp_packet.proofs.UriLaws.{IsByte, same_bytes, small_rest}
 use Rattle.dp_packet.proofs.uris.file_uri.Goals as goal
 

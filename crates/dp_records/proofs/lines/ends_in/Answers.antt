@@ -1,5 +1,5 @@
 use Rattle.std.proofs.Common.{ap, sym, ◌∙◌, ◌++◌, codes, arith}
-use Rattle.dp_value.specs.Decimals.{decimal_in}
+use Rattle.dp_bytes.specs.Decimals.{decimal_in}
 use Rattle.dp_records.proofs.LineLaws.{no_number, status_small}
 use Rattle.dp_records.proofs.NumberLaws.{number_again, number_is}
 use Rattle.dp_records.proofs.lines.ends_in.Goals as goal

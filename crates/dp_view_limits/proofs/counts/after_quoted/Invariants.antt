@@ -1,6 +1,6 @@
 use Rattle.std.proofs.Common.{◌≡◌, ◌-◌, drop}
 use Rattle.std.specs.Prelude.{flat_map}
-use Rattle.dp_value.specs.Quotes.{in_quotes}
+use Rattle.dp_bytes.specs.Quotes.{in_quotes}
 use Rattle.dp_view_limits.specs.inner.Sizes.{text_size}
 use Rattle.dp_view_limits.proofs.counts.after_quoted.Given as goal
 

@@ -2,7 +2,7 @@
 
 ghost use Rattle.std.specs.Prelude.{◌≡◌};
 ghost use Rattle.std.specs.Str.{bytes_eq};
-ghost use Rattle.dp_value.specs.Names as spec;
+ghost use Rattle.dp_bytes.specs.Names as spec;
 
 /// A name without one leading `/`.
 pub fn without_slash(name: &[u8]) -> &[u8]

@@ -1,9 +1,9 @@
 //! Numbers that are spelled in decimal.
 
 ghost use Rattle.std.specs.Prelude.{◌≡◌, ◌≤◌, IfSome};
-ghost use Rattle.dp_value.specs.Decimals.{decimal_in, is_decimal as spelt_decimal};
+ghost use Rattle.dp_bytes.specs.Decimals.{decimal_in, is_decimal as spelt_decimal};
 
-use crate::keys_of::starts_above_zero;
+use crate::integers::starts_above_zero;
 
 /// The number whose decimal the text is, where it is at most `most`: `0`, or a digit from 1 to 9
 /// followed by digits. Takes no memory.

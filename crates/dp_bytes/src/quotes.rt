@@ -2,7 +2,7 @@
 
 ghost use Rattle.std.specs.Prelude.{◌≡◌, ◌++◌, OnOk};
 ghost use Rattle.std.specs.List.{flat_map};
-ghost use Rattle.dp_value.specs.Quotes.{in_quotes};
+ghost use Rattle.dp_bytes.specs.Quotes.{in_quotes};
 
 use crate::Memory;
 

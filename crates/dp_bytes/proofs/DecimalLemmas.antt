@@ -11,7 +11,7 @@ use Rattle.std.specs.Result.{MatchResult, is_ok, result_ok, OkIff}
 use Rattle.std.specs.Str.{IsUtf8}
 use Rattle.std.specs.Str.Parse.{ParsesUnsigned, digits_value}
 use Rattle.std.specs.Str.{bytes_eq}
-use Rattle.dp_value.specs.Decimals.{is_decimal, decimal_in}
+use Rattle.dp_bytes.specs.Decimals.{is_decimal, decimal_in}
 
 own : IsNumeralModel (λ ds. list_all is_ascii_digit ds ≡ true) (digits_value 10)
 own = numerals_by_value (λ ds. list_all is_ascii_digit ds ≡ true) (search rules)

@@ -4,8 +4,8 @@ use Rattle.std.specs.Result.{MatchResult, is_ok, result_ok}
 use Rattle.std.specs.Str.{IsUtf8}
 use Rattle.std.proofs.Common.{Bor, Result, Ok, Err}
 use Rattle.std.proofs.lemmas.Option.{same_Some}
-use Rattle.dp_value.proofs.IntTextLemmas.{form-IsAscii, parsed_int}
-use Rattle.dp_value.proofs.keys_of.int_of_text.Goals as goal
+use Rattle.dp_bytes.proofs.IntTextLemmas.{form-IsAscii, parsed_int}
+use Rattle.dp_bytes.proofs.integers.int_of_text.Goals as goal
 
 -- bytes that are text are read as text
 never : {E : Type 0} (P : E → Type 0) {bs : List ℕ} (r : Result (Bor (List ℕ)) E)

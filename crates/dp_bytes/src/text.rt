@@ -1,9 +1,8 @@
 //! Texts of the language.
 
-ghost use Rattle.std.specs.Prelude.{◌≡◌, ◌==◌, ◌++◌, [], pos, not, nat_le, length, IfOk, OnOk, OnErr};
-ghost use Rattle.dp_value.specs.Table.{weight_limit};
+ghost use Rattle.std.specs.Prelude.{◌≡◌, ◌==◌, ◌++◌, [], pos, length, IfOk, OnOk, OnErr};
 
-use crate::{Bytes, Memory, WEIGHT_LIMIT};
+use crate::{Bytes, Memory};
 use std::alloc::Global;
 use std::hash::{Hash, Hasher};
 use std::marker::Model;
@@ -21,7 +20,7 @@ impl Model for Text {
 
     ghost Value = { List ℕ };
 
-    ghost use Rattle.dp_value.specs.inner.Texts.{bytes_behind};
+    ghost use Rattle.dp_bytes.specs.inner.Texts.{bytes_behind};
 
     ghost view = { bytes_behind };
 }
@@ -128,13 +127,6 @@ impl Text {
                 kept: Some(bytes.clone()?),
             }),
         }
-    }
-
-    /// Whether the text with a piece behind it weighs more than a value may.
-    pub fn is_beyond(&self, piece: &[u8]) -> bool
-        ensures { result ≡ not (nat_le (length (self.now ++ piece.now)) weight_limit) }
-    {
-        (self.len() as u64).saturating_add(piece.len() as u64) > WEIGHT_LIMIT
     }
 
     /// Puts a piece behind the text. If it has no other owner it grows in its place, else its bytes are copied; the

@@ -2,7 +2,7 @@
 use Rattle.std.specs.Prelude.{ℕ, nat_le, Bool, ◌&&◌, ◌||◌, cond, List, Option, Some, None, codes}
 use Rattle.std.specs.Str.{bytes_eq}
 use Rattle.std.specs.Str.Parse.{digits_value}
-use Rattle.dp_value.specs.IntText.{is_positive}
+use Rattle.dp_bytes.specs.IntText.{is_positive}
 
 abbrev pub is_decimal : List ℕ → Bool
 is_decimal text = bytes_eq text (codes "0") || is_positive text

@@ -1,6 +1,6 @@
 use Rattle.std.proofs.Common.{sym, arith}
-use Rattle.dp_value.proofs.DecimalLemmas.{never, same_bytes, not_parsed}
-use Rattle.dp_value.proofs.decimals.decimal.Goals as goal
+use Rattle.dp_bytes.proofs.DecimalLemmas.{never, same_bytes, not_parsed}
+use Rattle.dp_bytes.proofs.decimals.decimal.Goals as goal
 
 pub returns-in_err-text-clause-value : goal.returns-in_err-text-clause-value
 returns-in_err-text-clause-value c =

@@ -1,0 +1,2 @@
+pub mod IntTextLemmas
+pub mod DecimalLemmas
