@@ -67,9 +67,6 @@ module _ (name : List ℕ) (v : Value) (s : State) where
   pub stays : is_some (constant name s) ≡ true → s ≡ with_constant name v s
   stays there = by_test true there
 
-  pub gets : (own : List ℕ) (constants : Variables) → is_some (constant name s) ≡ false → own ≡ name
-      → constants ≡ with_slot s.constants own (Held v) → record s { constants = constants } ≡ with_constant name v s
-  gets own constants missing named set =
-      ap (λ (vs : Variables). record s { constants = vs })
-      (set ∙ ap (λ (n : List ℕ). with_slot s.constants n (Held v)) named)
-      ∙ by_test false missing
+  pub gets : (constants : Variables) → is_some (constant name s) ≡ false
+      → constants ≡ with_slot s.constants name (Held v) → record s { constants = constants } ≡ with_constant name v s
+  gets constants missing set = ap (λ (vs : Variables). record s { constants = vs }) set ∙ by_test false missing

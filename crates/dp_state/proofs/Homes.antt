@@ -1,4 +1,4 @@
--- The own variables of a frame, taken out and put back.
+-- The own variables of a frame, changed where they stand.
 use Rattle.std.proofs.Common.{◌≡◌, ◌≢◌, ℕ, zero, suc, ◌-◌, ◌<◌, ◌≤◌, ◌==◌, ℤ, Bool, true, false, if◌then◌else◌, List, [], ◌∷◌, length, slice_get, slice_set, get_or, Option, Some, None, is_some, refl, sym, ap, ◌∙◌, arith}
 use Rattle.std.proofs.lemmas.Bool.Decides.{nat_tests}
 use Rattle.std.specs.Option.{option_map_or}
@@ -17,12 +17,6 @@ pub length-with_vars : (at : ℕ) (vs : Variables) (fs : List Frame) → length 
 length-with_vars at vs [] = refl
 length-with_vars zero vs (f ∷ fs) = refl
 length-with_vars (suc at) vs (f ∷ fs) = ap suc (length-with_vars at vs fs)
-
-with_vars-twice : (at : ℕ) (vs ws : Variables) (fs : List Frame)
-    → with_vars at ws (with_vars at vs fs) ≡ with_vars at ws fs
-with_vars-twice at vs ws [] = refl
-with_vars-twice zero vs ws (f ∷ fs) = refl
-with_vars-twice (suc at) vs ws (f ∷ fs) = ap (λ gs. f ∷ gs) (with_vars-twice at vs ws fs)
 
 with_vars-same : (at : ℕ) (fs : List Frame) (f : Frame) → slice_get fs at ≡ Some f → with_vars at f.vars fs ≡ fs
 with_vars-same at [] f found = refl
@@ -56,14 +50,6 @@ own-above : (at : ℕ) (s : State)
 own-above at s =
     ap (λ b. if b then s.globals else option_map_or (λ f. f.vars) (slice_get s.frames (suc at)) s.globals) (is_above at)
 
-pub with_own-twice : (at : ℕ) (vs ws : Variables) (s : State) → with_own at ws (with_own at vs s) ≡ with_own at ws s
-with_own-twice zero vs ws s = refl
-with_own-twice (suc at) vs ws s =
-    above at ws (with_own (suc at) vs s)
-    ∙ ap (λ (t : State). record t { frames = with_vars (suc at) ws t.frames }) (above at vs s)
-    ∙ ap (λ (fs : List Frame). record s { frames = fs }) (with_vars-twice (suc at) vs ws s.frames)
-    ∙ sym (above at ws s)
-
 frame_at : (fs : List Frame) (at : ℕ) → at < length fs → (f : Frame) × (slice_get fs at ≡ Some f)
 frame_at [] at within = absurd (omega arith)
 frame_at (f ∷ fs) zero within = (f, refl)
@@ -84,11 +70,6 @@ pub with_own-same : (at : ℕ) (s : State) → at ≤ length s.frames - 1 → wi
 with_own-same zero s within = refl
 with_own-same (suc at) s within = let found = frame_at s.frames (suc at) (omega arith) in same-by at s found.0 found.1
 
-pub frames-with_own : (at : ℕ) (vs : Variables) (s : State) → length (with_own at vs s).frames ≡ length s.frames
-frames-with_own zero vs s = refl
-frames-with_own (suc at) vs s =
-    ap (λ (t : State). length t.frames) (above at vs s) ∙ length-with_vars (suc at) vs s.frames
-
 -- the own variables of a frame above the lowest are those that stand in it
 own-vars : (at : ℕ) (s : State) → at ≢ 0 → at ≤ length s.frames - 1 → own_variables s at ≡ vars_in s.frames at
 own-vars zero s apart within = absurd (apart refl)
@@ -104,47 +85,33 @@ own-apart at s globals apart within =
     own-vars at (record s { globals = globals }) apart within ∙ sym (own-vars at s apart within)
 
 -- ---- the variables that the top frame uses, changed where they stand
-module _ (at : ℕ) (s : State) (is : at ≡ owner_at s 0) where
-  pub top-globals : at ≡ 0 → s.globals ≡ variables_at s 0
-  top-globals lowest = ap (own_variables s) (sym lowest ∙ is)
+module _ (at : ℕ) (s : State) (vs : Variables) (is : at ≡ owner_at s 0) (own : vs ≡ own_variables s at) where
+  pub top-vars : vs ≡ variables_at s 0
+  top-vars = own ∙ ap (own_variables s) is
 
-  pub top-vars : at ≢ 0 → at ≤ length s.frames - 1 → vars_in s.frames at ≡ variables_at s 0
-  top-vars apart within = sym (own-vars at s apart within) ∙ ap (own_variables s) is
+  pub top-changed : (s₂ : State) (ws : Variables) (change : Variables → Variables) → s₂ ≡ with_own at ws s
+      → ws ≡ change vs → s₂ ≡ with_variables 0 (change (variables_at s 0)) s
+  top-changed s₂ ws change left made =
+      left
+      ∙ ap (λ (x : Variables). with_own at x s) (made ∙ ap change top-vars)
+      ∙ ap (λ (n : ℕ). with_own n (change (variables_at s 0)) s) is
 
-  module _ (change : Variables → Variables) where
-    pub changed-globals : (new : Variables) → at ≡ 0 → new ≡ change s.globals
-        → record s { globals = new } ≡ with_variables 0 (change (variables_at s 0)) s
-    changed-globals new lowest made =
-        ap (λ (vs : Variables). record s { globals = vs }) made
-        ∙ ap (λ (n : ℕ). with_own n (change (own_variables s n)) s) (sym lowest ∙ is)
+module _ (at : ℕ) (s : State) (is : at ≡ owner_at s 0) (within : at ≤ length s.frames - 1) where
+  unchanged : with_variables 0 (variables_at s 0) s ≡ s
+  unchanged = with_own-same (owner_at s 0) s (omega arith)
 
-    pub changed-frames : (new : List Frame) → at ≢ 0 → at ≤ length s.frames - 1
-        → new ≡ with_vars at (change (vars_in s.frames at)) s.frames
-        → record s { frames = new } ≡ with_variables 0 (change (variables_at s 0)) s
-    changed-frames new apart within made =
-        let vs = change (vars_in s.frames at) in
-        ap (λ (fs : List Frame). record s { frames = fs }) made
-        ∙ sym (ap (λ b. if b then record s { globals = vs } else record s { frames = with_vars at vs s.frames })
-        (apart-test at apart))
-        ∙ ap (λ (ws : Variables). with_own at (change ws) s) (sym (own-vars at s apart within))
-        ∙ ap (λ (n : ℕ). with_own n (change (own_variables s n)) s) is
+  if-by : (b : Bool) (vs : Variables) → with_variables 0 (if b then vs else variables_at s 0) s
+      ≡ (if b then with_variables 0 vs s else s)
+  if-by true vs = refl
+  if-by false vs = unchanged
 
-  module _ (within : at ≤ length s.frames - 1) where
-    unchanged : with_variables 0 (variables_at s 0) s ≡ s
-    unchanged = with_own-same (owner_at s 0) s (omega arith)
+  pub top-replaced : (name : List ℕ) (v : Value) → with_variables 0 (with_replaced name v (variables_at s 0)) s
+      ≡ (if is_some (value_held (slot_of (variables_at s 0) name))
+      then with_variables 0 (with_slot (variables_at s 0) name (Held v)) s else s)
+  top-replaced name v =
+      if-by (is_some (value_held (slot_of (variables_at s 0) name))) (with_slot (variables_at s 0) name (Held v))
 
-    if-by : (b : Bool) (vs : Variables) → with_variables 0 (if b then vs else variables_at s 0) s
-        ≡ (if b then with_variables 0 vs s else s)
-    if-by true vs = refl
-    if-by false vs = unchanged
-
-    pub top-replaced : (name : List ℕ) (v : Value) → with_variables 0 (with_replaced name v (variables_at s 0)) s
-        ≡ (if is_some (value_held (slot_of (variables_at s 0) name))
-        then with_variables 0 (with_slot (variables_at s 0) name (Held v)) s else s)
-    top-replaced name v =
-        if-by (is_some (value_held (slot_of (variables_at s 0) name))) (with_slot (variables_at s 0) name (Held v))
-
-    pub top-summed : (name : List ℕ) (sum : Option ℤ) → with_variables 0 (with_sum name sum (variables_at s 0)) s
-        ≡ option_map_or (λ n. with_variables 0 (with_slot (variables_at s 0) name (Held (Int n))) s) sum s
-    top-summed name None = unchanged
-    top-summed name (Some n) = refl
+  pub top-summed : (name : List ℕ) (sum : Option ℤ) → with_variables 0 (with_sum name sum (variables_at s 0)) s
+      ≡ option_map_or (λ n. with_variables 0 (with_slot (variables_at s 0) name (Held (Int n))) s) sum s
+  top-summed name None = unchanged
+  top-summed name (Some n) = refl

@@ -4,6 +4,7 @@ pub mod Pairs
 pub mod FoundFunctions
 pub mod Slots
 pub mod Positions
+pub mod Rows
 pub mod Fronts
 pub mod Homes
 pub mod VariableSteps

@@ -1,8 +1,8 @@
 -- Whose variables each frame uses, and the line of the last of frames.
 use Rattle.std.proofs.Common.{◌≡◌, ℕ, zero, suc, ◌+◌, ◌-◌, ◌<◌, ◌≤◌, Bool, true, false, if◌then◌else◌, nat_lt, ltb-true, ltb-false, List, [], ◌∷◌, ◌++◌, length, take, slice_get, slice_set, get_or, Option, Some, length-append, refl, sym, ap, ◌∙◌, arith}
 use Rattle.std.specs.Option.{option_map_or}
-use Rattle.std.proofs.Math.Seq.{take-append_seam, take-length}
-use Rattle.std.proofs.lemmas.List.{length-take-le, take-append-le}
+use Rattle.std.proofs.Math.Seq.{take-append_seam, take-length, take-set-lt}
+use Rattle.std.proofs.lemmas.List.{get_or-take, length-take-le, take-append-le, take-set-le, take-take, take_more_set}
 use Rattle.std.proofs.lemmas.Option.{same_Some, slice_get_past, slice_get_read}
 use Rattle.dp_state.specs.declared.state.Frame.{Frame}
 use Rattle.dp_state.specs.inner.Owners.{owners_below, owners_of}
@@ -252,30 +252,39 @@ kept-vars : (at : ℕ) (vs : Variables) (fs : List Frame) (os : List ℕ) → os
 kept-vars at vs fs os kept =
     kept ∙ sym (owners_of-alike (with_vars at vs fs) fs (length-with_vars at vs fs) (shares-with_vars at vs fs))
 
--- the frame f at a position gets other variables where it stands
-module _ (at : ℕ) (fs gs : List Frame) (f : Frame) (seen : fs ≡ gs) (is : f ≡ get_or fs at f)
-    (within : at < length gs) where
-  inside : at < length fs
+-- Of the frames that are kept so many are in use, which are gs. The frame f at a position among these gets other
+-- variables where it stands.
+module _ (at live : ℕ) (fs gs : List Frame) (f : Frame) (few : live ≤ length fs) (seen : take live fs ≡ gs)
+    (is : f ≡ get_or fs at f) (within : at < length gs) where
+  below : at < live
+  below = omega (arith, within, ap length seen, length-take-le live fs few)
+
+  inside : at < length (take live fs)
   inside = omega (arith, within, ap length seen)
 
-  pub frame-there : slice_get gs at ≡ Some f
+  is_there : f ≡ get_or (take live fs) at f
+  is_there = is ∙ sym (get_or-take live fs at f below)
+
+  frame-there : slice_get gs at ≡ Some f
   frame-there =
-      ap (λ (l : List Frame). slice_get l at) (sym seen) ∙ slice_get_read fs (length fs) at f refl inside is
+      ap (λ (l : List Frame). slice_get l at) (sym seen)
+      ∙ slice_get_read (take live fs) (length (take live fs)) at f refl inside is_there
 
   pub vars-there : f.vars ≡ vars_in gs at
   vars-there =
       ap (λ (o : Option Frame). let none : Variables = [] in option_map_or (λ g. g.vars) o none) (sym frame-there)
 
   module _ (vs : Variables) where
-    pub vars-kept : (os : List ℕ) → os ≡ owners_of fs → os ≡ owners_of (slice_set fs at (record f { vars = vs }))
-    vars-kept os kept = kept-vars at vs fs os kept ∙ ap owners_of (sym (set-vars at fs f vs is inside))
+    written : take live (slice_set fs at (record f { vars = vs })) ≡ with_vars at vs (take live fs)
+    written =
+        take-set-lt live fs at (record f { vars = vs }) below ∙ set-vars at (take live fs) f vs is_there inside
 
-    pub vars-changed : (change : Variables → Variables) → vs ≡ change f.vars
-        → slice_set fs at (record f { vars = vs }) ≡ with_vars at (change (vars_in gs at)) gs
-    vars-changed change made =
-        set-vars at fs f vs is inside
-        ∙ ap (λ (ws : Variables). with_vars at ws fs) (made ∙ ap change vars-there)
-        ∙ ap (with_vars at (change (vars_in gs at))) seen
+    pub vars-kept : (os : List ℕ) → os ≡ owners_of (take live fs)
+        → os ≡ owners_of (take live (slice_set fs at (record f { vars = vs })))
+    vars-kept os kept = kept-vars at vs (take live fs) os kept ∙ ap owners_of (sym written)
+
+    pub vars-given : take live (slice_set fs at (record f { vars = vs })) ≡ with_vars at vs gs
+    vars-given = written ∙ ap (with_vars at vs) seen
 
 -- the last frame gets the line
 pub set_last : (line n : ℕ) (f : Frame) (fs : List Frame) → n + 1 ≡ length fs → f ≡ get_or fs n f
@@ -286,3 +295,26 @@ set_last line (suc n) f (g ∷ []) last at = absurd (omega arith)
 set_last line zero f (g ∷ h ∷ fs) last at = absurd (omega arith)
 set_last line (suc n) f (g ∷ h ∷ fs) last at =
     ap (λ (l : List Frame). g ∷ l) (set_last line n f (h ∷ fs) (omega arith) at)
+
+-- so many frames are in use; the last of them gets the line where it stands
+pub set_top : (line live : ℕ) (f : Frame) (fs : List Frame) → 0 < live → live ≤ length fs → f ≡ get_or fs (live - 1) f
+    → take live (slice_set fs (live - 1) (record f { line = line })) ≡ with_line line (take live fs)
+set_top line live f fs some few is =
+    let below : live - 1 < live = omega (arith, some) in
+    let last : (live - 1) + 1 ≡ length (take live fs) = omega (arith, some, length-take-le live fs few) in
+    take-set-lt live fs (live - 1) (record f { line = line }) below
+    ∙ set_last line (live - 1) f (take live fs) last (is ∙ sym (get_or-take live fs (live - 1) f below))
+
+-- it is written to and goes
+pub set_popped : (live : ℕ) (f : Frame) (fs : List Frame)
+    → take (live - 1) (slice_set fs (live - 1) f) ≡ take (live - 1) (take live fs)
+set_popped live f fs =
+    take-set-le (live - 1) fs (live - 1) f (omega arith) ∙ sym (take-take (live - 1) live fs (omega arith))
+
+-- the frame behind those in use comes to them
+pub kept-called : (live : ℕ) (f : Frame) (fs : List Frame) (os : List ℕ) → live < length fs → f.shares ≡ false
+    → os ≡ owners_of (take live fs) → os ++ live ∷ [] ≡ owners_of (take (live + 1) (slice_set fs live f))
+kept-called live f fs os within own kept =
+    let many : length (take live fs) ≡ live = length-take-le live fs (omega (arith, within)) in
+    kept-push (take live fs) f os live kept (sym many ∙ next-own (take live fs) f own)
+    ∙ ap owners_of (sym (take_more_set fs live f within))

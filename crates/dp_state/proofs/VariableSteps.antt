@@ -1,5 +1,5 @@
--- A step on a variable, by the own variables of one frame: they are taken out, changed, and put back.
-use Rattle.std.proofs.Common.{◌≡◌, ◌≢◌, ◌⊎◌, inl, inr, ℕ, ◌-◌, ◌≤◌, ◌==◌, Bool, true, false, not, if◌then◌else◌, List, [], ◌∷◌, length, Option, Some, None, is_some, unwrap_or, Result, Ok, Err, IfErr, OnOk, OnErr, refl, sym, ap, ◌∙◌, subst, arith}
+-- A step on a variable, by the own variables of one frame: they are lent, and changed.
+use Rattle.std.proofs.Common.{◌≡◌, ◌≢◌, ◌⊎◌, inl, inr, ℕ, ◌-◌, ◌≤◌, ◌==◌, Bool, true, false, not, if◌then◌else◌, List, [], ◌∷◌, length, Option, Some, None, is_some, unwrap_or, Result, Ok, Err, IfErr, OnOk, OnErr, refl, sym, ap, ◌∙◌, subst}
 use Rattle.std.specs.Option.{option_map_or}
 use Rattle.dp_state.specs.declared.moments.FatalKind.{FatalKind}
 use Rattle.dp_state.specs.declared.state.Fault.{Fault}
@@ -18,7 +18,7 @@ use Rattle.dp_value.specs.declared.value.Value.TheVariants.{Null}
 use Rattle.dp_value.specs.Data.{Data}
 use Rattle.dp_value.specs.Entry.{removed, write_result}
 use Rattle.dp_value.specs.Value.{data_of, value_of}
-use Rattle.dp_state.proofs.Homes.{apart-test, frames-with_own, own-apart, with_own-same, with_own-twice}
+use Rattle.dp_state.proofs.Homes.{apart-test, own-apart, with_own-same}
 use Rattle.dp_state.proofs.Slots.{without-new}
 
 -- a state with what a step on the own variables of a frame gives
@@ -36,27 +36,20 @@ refused-by : (at : ℕ) (s : State) (part : Result Variables FatalKind) (kind : 
 refused-by at s (Ok vs) kind h = absurd (cc)
 refused-by at s (Err other) kind h = cc
 
--- the frame is still there once its variables were taken out
-pub within-still : (at : ℕ) (s s₁ : State) → s₁ ≡ with_own at [] s → at ≤ length s.frames - 1
-    → at ≤ length s₁.frames - 1
-within-still at s s₁ left within = omega (arith, ap (λ (t : State). length t.frames) left, frames-with_own at [] s)
-
-module _ (at : ℕ) (s s₁ s₂ : State) (vs ws : Variables) (taken : vs ≡ own_variables s at) (left : s₁ ≡ with_own at [] s)
-    (given : s₂ ≡ with_own at ws s₁) where
-  pub put : s₂ ≡ with_own at ws s
-  put = given ∙ ap (with_own at ws) left ∙ with_own-twice at [] ws s
-
-  pub put_same : at ≤ length s.frames - 1 → ws ≡ vs → s₂ ≡ s
-  put_same within same = put ∙ ap (λ (x : Variables). with_own at x s) (same ∙ taken) ∙ with_own-same at s within
+-- vs are the own variables of a frame, and ws what is left for them
+module _ (at : ℕ) (s s₂ : State) (vs ws : Variables) (own : vs ≡ own_variables s at)
+    (left : s₂ ≡ with_own at ws s) where
+  pub left_same : at ≤ length s.frames - 1 → ws ≡ vs → s₂ ≡ s
+  left_same within same = left ∙ ap (λ (x : Variables). with_own at x s) (same ∙ own) ∙ with_own-same at s within
 
   module _ (asked : Result State FatalKind) (part : Variables → Result Variables FatalKind)
       (is : asked ≡ with_result at s (part (own_variables s at))) where
     asked-by : asked ≡ with_result at s (part vs)
-    asked-by = is ∙ ap (λ (x : Variables). with_result at s (part x)) (sym taken)
+    asked-by = is ∙ ap (λ (x : Variables). with_result at s (part x)) (sym own)
 
     done-by : part vs ≡ Ok ws → asked ≡ Ok s₂
     done-by h =
-        asked-by ∙ ap (with_result at s) h ∙ ap (λ (t : State). let r : Result State FatalKind = Ok t in r) (sym put)
+        asked-by ∙ ap (with_result at s) h ∙ ap (λ (t : State). let r : Result State FatalKind = Ok t in r) (sym left)
 
     pub on_ok : {X : Type 0} (r : Result X Fault) → OnOk r (part vs ≡ Ok ws) → OnOk r (asked ≡ Ok s₂)
     on_ok (Ok x) h = done-by h
@@ -69,7 +62,7 @@ module _ (at : ℕ) (s s₁ s₂ : State) (vs ws : Variables) (taken : vs ≡ ow
 
     -- what stands once memory ran out
     pub on_either : at ≤ length s.frames - 1 → (ws ≡ vs) ⊎ (part vs ≡ Ok ws) → (s₂ ≡ s) ⊎ (asked ≡ Ok s₂)
-    on_either within (inl same) = inl (put_same within same)
+    on_either within (inl same) = inl (left_same within same)
     on_either within (inr done) = inr (done-by done)
 
     pub on_sure : {X : Type 0} (r : Result X Fault) → IsSureIn (part vs) r → IsSure asked r
@@ -77,7 +70,7 @@ module _ (at : ℕ) (s s₁ s₂ : State) (vs ws : Variables) (taken : vs ≡ ow
 
   pub on_err : {X E : Type 0} (r : Result X E) → at ≤ length s.frames - 1 → OnErr r (ws ≡ vs) → OnErr r (s₂ ≡ s)
   on_err (Ok x) within h = tt
-  on_err (Err e) within h = put_same within h
+  on_err (Err e) within h = left_same within h
 
 -- ---- the frame among whose variables a variable stands
 module _ (s : State) (level : ℕ) (name : List ℕ) where

@@ -2,5 +2,7 @@
 -- speaks of it.
 pub mod Parts
 pub mod Declarations
+pub mod Loans
 pub mod Owners
 pub mod Standing
+pub mod OwnVariables

@@ -1,17 +1,17 @@
 //! The frames of calls and of included files.
 
-ghost use Rattle.std.specs.Prelude.{◌≡◌, [], is_some, Ok, IfOk, IfErr, OnOk, OnErr};
+ghost use Rattle.std.specs.Prelude.{◌≡◌, is_some, Ok, IfErr, OnOk, OnErr};
 ghost use Rattle.std.specs.List.{list_any};
 ghost use Rattle.dp_state.specs.States.{IsCause, IsSure};
 ghost use Rattle.dp_tree.specs.Files.{functions_of};
 ghost use Rattle.dp_state.specs.Functions.{any_declared as has_declared, called, declared_function, included};
-ghost use Rattle.dp_state.specs.Functions.{included_frame as frame_of_file, with_parameters};
+ghost use Rattle.dp_state.specs.Functions.{included_frame as frame_of_file};
 
 use crate::moments::FatalKind;
 use crate::state::{Fault, Frame, FrameKind, State};
 use crate::steps::FRAME_LIMIT;
-use crate::vars::{Slot, Vars};
-use dp_bytes::{Bytes, Items, Memory};
+use crate::vars::Vars;
+use dp_bytes::{Items, Memory};
 use dp_tree::{Bundle, Function};
 use dp_value::Value;
 use std::alloc::Global;
@@ -40,14 +40,8 @@ impl State {
             return Err(Fault::Fatal(FatalKind::TooDeep));
         }
         let alloc = self.allocator();
-        let frame = Frame {
-            kind: FrameKind::Called(function.name.try_clone()?),
-            file,
-            line: function.line,
-            shares: false,
-            vars: parameters(alloc, function.parameters.as_slice(), values)?,
-        };
-        self.enter(frame)
+        self.frames.call(alloc, file, function, values)?;
+        Ok(())
     }
 
     /// Puts a frame on top for this file of a bundle, on line 1, that shares the variables of the frame below it, and
@@ -93,17 +87,6 @@ impl State {
     {
         functions.iter().any(|function| self.function(bundle, function.name.as_slice()).is_some())
     }
-}
-
-/// Parameters with their values.
-fn parameters(alloc: Global, names: &[Bytes], values: Items<Value>) -> Result<Vars, Memory>
-    ensures { IfOk result (λ vars. vars ≡ with_parameters names.now values []) }
-{
-    let mut vars = Vars::new(alloc);
-    for (name, value) in names.iter().zip(values.into_vec()) {
-        vars.set(name.try_clone()?, Slot::Held(value))?;
-    }
-    Ok(vars)
 }
 
 /// The frame of an included file.

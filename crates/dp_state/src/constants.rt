@@ -101,7 +101,7 @@ impl State {
         if self.has_constant(name) {
             return Ok(false);
         }
-        self.constants.set(name.try_clone()?, Slot::Held(value))?;
+        self.constants.set(name, Slot::Held(value))?;
         Ok(true)
     }
 }

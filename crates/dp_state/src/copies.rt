@@ -24,7 +24,7 @@ fn copy_pair(from: &Vars, at: usize, to: &mut Vars) -> Result<(), Memory>
     ensures { OnOk result (to.new ≡ with_pair from.now at to.old) }
 {
     match from.pair(at) {
-        Some((name, slot)) => to.set(name.try_clone()?, slot.try_clone()?),
+        Some((name, slot)) => to.set(name, slot.try_clone()?),
         None => Ok(()),
     }
 }

@@ -71,32 +71,28 @@ impl Declared {
         })
     }
 
-    /// The first of them that has this name. Takes no memory.
-    pub(crate) fn named(&self, bundle: &Bundle, name: &AnyCase<'_>) -> Option<FunctionRef>
+    /// The first of them that has this name, in any case of letters.
+    pub(crate) fn named(&self, alloc: Global, bundle: &Bundle, name: &[u8]) -> Option<FunctionRef>
         ensures { result ≡ declared_function bundle.now name.now self.now }
     {
-        first_named(self.parts.as_slice(), bundle, name)
-    }
-}
-
-/// The first function that has this name, of these parts.
-fn first_named(parts: &[Part], bundle: &Bundle, name: &AnyCase<'_>) -> Option<FunctionRef>
-    ensures { result ≡ declared_function bundle.now name.now (functions_in parts.now) }
-{
-    for part in parts {
-        let found = part_named(part, bundle, name);
-        if found.is_some() {
-            return found;
+        for part in self.parts.as_slice() {
+            let found = part_named(alloc, part, bundle, name);
+            if found.is_some() {
+                return found;
+            }
         }
+        None
     }
-    None
 }
 
 /// The first function that has this name, of one part.
-fn part_named(part: &Part, bundle: &Bundle, name: &AnyCase<'_>) -> Option<FunctionRef>
+fn part_named(alloc: Global, part: &Part, bundle: &Bundle, name: &[u8]) -> Option<FunctionRef>
     ensures { result ≡ reference_in part.now (function_named bundle.now part.now.file name.now) }
 {
-    let number = bundle.function_named(part.file, name)?;
+    let number = match bundle.one_of_few(part.file, name) {
+        Some(number) => number?,
+        None => bundle.function_named(part.file, &AnyCase::new(alloc, name))?,
+    };
     if number >= part.count as usize {
         return None;
     }

@@ -33,12 +33,10 @@ pub(crate) fn assign_in(
     if keys.is_empty() && !push {
         return assign_whole(vars, name, value);
     }
-    let Some(mut held) = vars.exchange(name, Value::Null) else {
+    let Some(held) = vars.value_mut(name) else {
         return assign_new(alloc, vars, name, keys, push, value);
     };
-    let done = write_at(alloc, &mut held, keys, push, value);
-    let _ = vars.exchange(name, held);
-    match done {
+    match write_at(alloc, held, keys, push, value) {
         Ok(()) => Ok(()),
         Err(why) => Err(Fault::from(why)),
     }
@@ -63,9 +61,12 @@ fn put(vars: &mut Vars, name: &Bytes, value: Value) -> Result<(), Memory>
     ensures ok { OnOk result (vars.new ≡ with_slot vars.old name.now (variable.Held value)) }
     ensures err { OnErr result (vars.new ≡ vars.old) }
 {
-    match vars.put(name, value) {
-        None => Ok(()),
-        Some(value) => vars.set(name.try_clone()?, Slot::Held(value)),
+    match vars.value_mut(name) {
+        Some(held) => {
+            *held = value;
+            Ok(())
+        }
+        None => vars.set(name, Slot::Held(value)),
     }
 }
 
@@ -87,7 +88,7 @@ fn assign_new(
     let mut made = Value::Null;
     match write_at(alloc, &mut made, keys, push, value) {
         Ok(()) => {
-            vars.set(name.try_clone()?, Slot::Held(made))?;
+            vars.set(name, Slot::Held(made))?;
             Ok(())
         }
         Err(why) => Err(Fault::from(why)),
@@ -114,12 +115,10 @@ pub(crate) fn append_in(
         → (vars.new ≡ vars.old) ⊎ (assigned_in name.now keys.now false variant.Null vars.old ≡ Ok vars.new) }
 {
     let alloc = vars.allocator();
-    let Some(mut held) = vars.exchange(name, Value::Null) else {
+    let Some(held) = vars.value_mut(name) else {
         return append_new(alloc, vars, name, keys, text, piece);
     };
-    let done = append_at(alloc, &mut held, keys, text, piece);
-    let _ = vars.exchange(name, held);
-    match done {
+    match append_at(alloc, held, keys, text, piece) {
         Ok(longer) => Ok(longer),
         Err(why) => Err(Fault::from(why)),
     }
@@ -146,7 +145,7 @@ fn append_new(
     let mut made = Value::Null;
     match append_at(alloc, &mut made, keys, text, piece) {
         Ok(longer) => {
-            vars.set(name.try_clone()?, Slot::Held(made))?;
+            vars.set(name, Slot::Held(made))?;
             Ok(longer)
         }
         Err(why) => Err(Fault::from(why)),
@@ -160,12 +159,10 @@ pub(crate) fn remove_in(vars: &mut Vars, name: &Bytes, keys: &[Option<Key>]) -> 
     ensures sure { IsSureIn (removed_in name.now keys.now vars.old) result }
     ensures err { OnErr result (vars.new ≡ vars.old) }
 {
-    let Some(mut held) = vars.exchange(name, Value::Null) else {
+    let Some(held) = vars.value_mut(name) else {
         return Ok(());
     };
-    let done = remove_at(&mut held, keys);
-    let _ = vars.exchange(name, held);
-    match done {
+    match remove_at(held, keys) {
         Ok(()) => Ok(()),
         Err(why) => Err(Fault::from(why)),
     }
@@ -180,7 +177,7 @@ pub(crate) fn make_null(vars: &mut Vars, name: &Bytes) -> Result<bool, Memory>
     if vars.get(name).is_some() {
         return Ok(false);
     }
-    vars.set(name.try_clone()?, Slot::Held(Value::Null))?;
+    vars.set(name, Slot::Held(Value::Null))?;
     Ok(true)
 }
 
@@ -189,5 +186,5 @@ pub(crate) fn bind_in(vars: &mut Vars, name: &Bytes) -> Result<(), Memory>
     ensures ok { OnOk result (vars.new ≡ with_slot vars.old name.now variable.Bound) }
     ensures err { OnErr result (vars.new ≡ vars.old) }
 {
-    vars.set(name.try_clone()?, Slot::Bound)
+    vars.set(name, Slot::Bound)
 }

@@ -9,6 +9,7 @@ mod entries;
 mod faults;
 mod frames;
 mod functions;
+mod hashed;
 mod lookups;
 mod moments;
 mod places;

@@ -1,5 +1,6 @@
 //! Writes of variables and of their entries, and `unset` and `global`.
 
+ghost use Rattle.std.specs.Borrow.{sem};
 ghost use Rattle.std.specs.Prelude.{◌≡◌, ◌⊎◌, ◌++◌, ◌≤◌, ◌-◌, false, [], Ok, Err, length, IfOk, IsOk, IfErr, OnOk};
 ghost use Rattle.std.specs.Prelude.{OnErr, is_some, if◌then◌else◌};
 ghost use Rattle.std.specs.Option.{option_map_or};
@@ -8,8 +9,9 @@ ghost use Rattle.dp_state.specs.declared.state.Fault.TheVariants as fault;
 ghost use Rattle.dp_value.specs.declared.value.Value.TheVariants as variant;
 ghost use Rattle.dp_state.specs.Variables.{slot_of, sum_in, value_held, with_slot};
 ghost use Rattle.dp_state.specs.declared.vars.Slot.TheVariants as variable;
-ghost use Rattle.dp_state.specs.Places.{assigned, is_bound as is_mark, unset, with_global, with_own, with_variables};
+ghost use Rattle.dp_state.specs.Places.{assigned, is_bound as is_mark, unset, with_global, with_variables};
 ghost use Rattle.dp_state.specs.Places.{without_variable};
+ghost use Rattle.dp_state.specs.inner.OwnVariables.{LendsOwn};
 ghost use Rattle.dp_state.specs.inner.Parts.{home as home_of};
 
 use crate::entries::{append_in, assign_in, bind_in, make_null, remove_in};
@@ -17,7 +19,6 @@ use crate::state::{Fault, State};
 use crate::vars::{Slot, Vars};
 use dp_bytes::{Bytes, Memory, Text};
 use dp_value::{Key, Value};
-use std::mem;
 
 impl State {
     /// Gives the variable of this name at a level a value, or gives it to the entry of the variable under `keys`, or
@@ -44,13 +45,7 @@ impl State {
         ensures err { OnErr result (self.new ≡ self.old) }
     {
         let at = self.home(level, name);
-        if at == 0 {
-            return assign_in(&mut self.globals, name, keys, push, value);
-        }
-        let mut vars = self.take_own(at);
-        let done = assign_in(&mut vars, name, keys, push, value);
-        let _ = self.exchange_own(at, vars);
-        done
+        assign_in(self.own_mut(at), name, keys, push, value)
     }
 
     /// Puts an integer in the place of the value that a variable of the top frame has, and says whether it has one. A
@@ -62,10 +57,7 @@ impl State {
             else self.old) }
     {
         let at = self.owner_at(0);
-        if at == 0 {
-            return self.globals.put_integer(name, n);
-        }
-        self.frames.put_integer(at, name, n)
+        self.own_mut(at).put_integer(name, n)
     }
 
     /// Adds to the integer that a variable of the top frame has, and gives the sum. Where it has none of its own, or
@@ -76,10 +68,7 @@ impl State {
             (variable.Held (variant.Int sum))) self.old) result self.old }
     {
         let at = self.owner_at(0);
-        if at == 0 {
-            return self.globals.add(name, by);
-        }
-        self.frames.add(at, name, by)
+        self.own_mut(at).add(name, by)
     }
 
     /// Gives a variable of the top frame, or its entry under `keys`, a text with a piece behind it, and
@@ -106,13 +95,7 @@ impl State {
             → (self.new ≡ self.old) ⊎ (assigned 0 name.now keys.now false variant.Null self.old ≡ Ok self.new) }
     {
         let at = self.home(0, name);
-        if at == 0 {
-            return append_in(&mut self.globals, name, keys, text, piece);
-        }
-        let mut vars = self.take_own(at);
-        let done = append_in(&mut vars, name, keys, text, piece);
-        let _ = self.exchange_own(at, vars);
-        done
+        append_in(self.own_mut(at), name, keys, text, piece)
     }
 
     /// Takes a variable of the top frame away, or its entry under `keys` where there are any. A key that is `None`
@@ -134,13 +117,7 @@ impl State {
             return Ok(());
         }
         let at = self.home(0, name);
-        if at == 0 {
-            return remove_in(&mut self.globals, name, keys);
-        }
-        let mut vars = self.take_own(at);
-        let done = remove_in(&mut vars, name, keys);
-        let _ = self.exchange_own(at, vars);
-        done
+        remove_in(self.own_mut(at), name, keys)
     }
 
     /// Binds a name of the top frame to the global variable of this name; if that one is missing, it becomes null. If
@@ -154,10 +131,7 @@ impl State {
         if at == 0 {
             return Ok(());
         }
-        let mut vars = self.take_own(at);
-        let bound = bind_in(&mut vars, name);
-        let _ = self.exchange_own(at, vars);
-        match bound {
+        match bind_in(self.own_mut(at), name) {
             Ok(()) => Ok(()),
             Err(why) => {
                 if made {
@@ -173,9 +147,7 @@ impl State {
         ensures { self.new ≡ without_variable name.now self.old }
     {
         let at = self.owner_at(0);
-        let mut vars = self.take_own(at);
-        vars.remove(name);
-        let _ = self.exchange_own(at, vars);
+        self.own_mut(at).remove(name);
     }
 
     /// The position of the frame among whose own variables a variable at a level stands.
@@ -190,26 +162,16 @@ impl State {
         at
     }
 
-    /// Takes the own variables of the frame at this position out, and leaves none there.
-    fn take_own(&mut self, at: usize) -> Vars
+    /// Lends the own variables of the frame at this position; those of the lowest are the global ones.
+    fn own_mut(&mut self, at: usize) -> &mut Vars
         requires { at ≤ length self.old.frames - 1 }
-        ensures taken { result ≡ own_variables self.old at }
-        ensures left { self.new ≡ with_own at [] self.old }
-    {
-        let alloc = self.allocator();
-        self.exchange_own(at, Vars::new(alloc))
-    }
-
-    /// Gives the frame at this position its own variables, and gives those out that it had.
-    fn exchange_own(&mut self, at: usize, vars: Vars) -> Vars
-        requires { at ≤ length self.old.frames - 1 }
-        ensures taken { result ≡ own_variables self.old at }
-        ensures given { self.new ≡ with_own at vars self.old }
+        ensures* lends { sem 𝓛 (LendsOwn self.entry at result) }
+        ensures value { result.now ≡ own_variables self.old at }
     {
         if at == 0 {
-            return mem::replace(&mut self.globals, vars);
+            return &mut self.globals;
         }
-        self.frames.exchange_vars(at, vars)
+        self.frames.vars_mut(at)
     }
 }
 

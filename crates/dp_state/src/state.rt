@@ -31,14 +31,16 @@ pub struct Frame {
 /// Frames, the lowest first. Contracts see the list of the frames.
 ///
 /// With each of them is kept whose variables it uses, so that a look-up of a variable walks over no frames that share.
+/// So many of those that are kept are on the stack. What stands behind them was taken off: a call uses it again.
 #[derive(Debug, Drop)]
 pub struct Frames {
     pub(crate) frames: Vec<Frame>,
+    pub(crate) live: usize,
     pub(crate) owners: Vec<usize>,
 }
 
 impl Model for Frames {
-    ghost use Rattle.std.specs.Prelude.{◌≡◌, List};
+    ghost use Rattle.std.specs.Prelude.{◌≡◌, ◌≤◌, List, length, take};
     ghost use Rattle.std.specs.Coded.{coded_list};
     ghost use Rattle.dp_state.specs.declared.state.Frame.{Frame as ProgramFrame};
     ghost use Rattle.dp_state.specs.contracts.state.Frame as frame;
@@ -48,9 +50,10 @@ impl Model for Frames {
 
     ghost coded = { coded_list frame.the_row.coded };
 
-    ghost view = { λ f. f.frames.items };
+    ghost view = { λ f. take f.live f.frames.items };
 
-    ghost invariant = { λ f. f.owners.items ≡ owners_of f.frames.items };
+    ghost invariant = { λ f. (f.live ≤ length f.frames.items)
+        × (f.owners.items ≡ owners_of (take f.live f.frames.items)) };
 }
 
 /// A state of a program that runs: its frames, the lowest first, its global variables, the constants that it has

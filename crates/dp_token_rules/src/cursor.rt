@@ -9,7 +9,7 @@ ghost use Rattle.dp_token_rules.specs.Terminals.{head};
 ghost use Rattle.dp_token_rules.specs.TokenValues as token_values;
 
 use crate::terminal::{Terminal, is_superglobal, same_terminal, terminal_of};
-use dp_bytes::Bytes;
+use dp_bytes::{Bytes, Text};
 use dp_grammar::Refusal;
 use dp_lexer::{Token, TokenKind, is_reserved};
 use std::alloc::Global;
@@ -202,14 +202,14 @@ impl<'a> Tokens<'a> {
     }
 
     /// Takes a text, by a copy of its bytes.
-    pub fn text(&mut self, alloc: Global) -> Result<Bytes, Refusal>
+    pub fn text(&mut self, alloc: Global) -> Result<Text, Refusal>
         ensures { Reads (input.kind token_values.text_in self.old) result self.new }
     {
         match self.rest {
             [first, rest @ ..] => match &first.kind {
                 TokenKind::Text(bytes) => {
                     *self = Tokens::new(rest);
-                    Ok(Bytes::from_slice(alloc, bytes.as_slice())?)
+                    Ok(Text::from_slice(alloc, bytes.as_slice())?)
                 }
                 _ => Err(self.refuse()),
             },

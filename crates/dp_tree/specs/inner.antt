@@ -2,3 +2,4 @@
 -- speaks of it.
 pub mod Parts
 pub mod Indexes
+pub mod Sized

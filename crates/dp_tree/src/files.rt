@@ -1,6 +1,6 @@
 //! The files of a bundle by their names, and their functions by their numbers.
 
-ghost use Rattle.std.specs.Prelude.{◌≡◌, ◌<◌, [], length, option_map, position, slice_get, IfOk, OnErr};
+ghost use Rattle.std.specs.Prelude.{◌≡◌, ◌<◌, [], length, option_map, position, slice_get, IfOk, IfSome, OnErr};
 ghost use Rattle.std.specs.Option.{option_map_or};
 ghost use Rattle.std.specs.Str.{str_eq_ignore_ascii_case};
 ghost use Rattle.dp_tree.specs.Files.{file_named, function_at, function_count as count_of, function_named};
@@ -9,6 +9,9 @@ use crate::bundle::{Bundle, FunctionRef};
 use crate::names::AnyCase;
 use crate::tree::Function;
 use dp_bytes::Memory;
+
+/// How many functions of a file are walked, the most, before the hash of a name is taken.
+const FEW: usize = 8;
 
 impl Bundle {
     /// The number of the file of this name, by exact equality. Takes no memory: `Memory` comes only where there are
@@ -66,6 +69,16 @@ impl Bundle {
             Some(lower) => self.files.first(file, lower),
             None => self.walk(file, name.written),
         }
+    }
+
+    /// The same where the file has few functions, which are walked. `None` says nothing. Takes no memory.
+    pub fn one_of_few(&self, file: u32, name: &[u8]) -> Option<Option<usize>>
+        ensures { IfSome result (λ number. number ≡ function_named self.now file name.now) }
+    {
+        if self.functions(file).len() > FEW {
+            return None;
+        }
+        Some(self.walk(file, name))
     }
 
     /// The same without the name in lower case: the functions of the file are walked.

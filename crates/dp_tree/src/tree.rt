@@ -3,7 +3,7 @@
 
 use crate::boxed::Boxed;
 use crate::operators::{BinaryOp, UnaryOp};
-use dp_bytes::{Bytes, Items};
+use dp_bytes::{Bytes, Items, Text};
 
 /// A file: its statements and its functions, each in their order, and how many lines it has (one more than its line
 /// feeds).
@@ -154,7 +154,7 @@ pub enum Expression {
     Null,
     Bool(bool),
     Number(i64),
-    Text(Bytes),
+    Text(Text),
     Variable(Bytes),
     Constant(Bytes),
     Array(Items<Item>),

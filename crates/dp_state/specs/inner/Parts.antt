@@ -8,8 +8,7 @@ use Rattle.dp_state.specs.declared.state.Fault.TheVariants as fault
 use Rattle.dp_state.specs.declared.state.Fault.{Fault}
 use Rattle.dp_state.specs.declared.state.Frame.{Frame}
 use Rattle.dp_state.specs.declared.state.State.{State}
-use Rattle.dp_state.specs.declared.vars.Slot.TheVariants.{Held, Bound}
-use Rattle.dp_state.specs.declared.vars.Slot.{Slot}
+use Rattle.dp_state.specs.declared.vars.Slot.TheVariants.{Held}
 use Rattle.dp_value.specs.Data.{Data}
 use Rattle.dp_value.specs.Entry.{write_result, removed}
 use Rattle.dp_value.specs.Value.{data_of, value_of}
@@ -24,11 +23,6 @@ use Rattle.std.specs.Prelude.{◌≡◌, ⊤, ℕ, ℤ, Bool, if◌then◌else�
 abbrev pub with_pair : Variables → ℕ → Variables → Variables
 with_pair from at to =
     option_map_or (λ variable. with_slot to variable.0 variable.1) (slice_get from at) to
-
--- a slot with a value in the place of the one that it holds
-abbrev pub with_held : Value → Slot → Slot
-with_held value (Held old) = Held value
-with_held value Bound = Bound
 
 -- variables with a value in the place of the one that a name holds
 abbrev pub with_replaced : List ℕ → Value → Variables → Variables

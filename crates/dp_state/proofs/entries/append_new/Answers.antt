@@ -9,10 +9,9 @@ use Rattle.dp_state.proofs.entries.append_new.Goals as goal
 
 pub returns-in_ok-set-in-Ok-clause-ok : goal.returns-in_ok-set-in-Ok-clause-ok
 returns-in_ok-set-in-Ok-clause-ok c =
-    then_new c.args.name.now c.args.vars.now c.requires c.append_at.new.value c.in_ok-try_clone-in-Ok.field-0
-    c.set.new.self
-    (write_result c.args.keys.now false (text (c.args.text ++ c.args.piece.now))) c.in_ok-try_clone-in-Ok.ensures
-    c.in_ok-set-in-Ok.ensures.ok c.in-Ok.ensures.ok
+    then_new c.args.name.now c.args.vars.now c.requires c.append_at.new.value c.set.new.self
+    (write_result c.args.keys.now false (text (c.args.text ++ c.args.piece.now))) c.in_ok-set-in-Ok.ensures.ok
+    c.in-Ok.ensures.ok
 
 pub returns-in-Err-clause-sure : goal.returns-in-Err-clause-sure
 returns-in-Err-clause-sure c = λ kind refused.

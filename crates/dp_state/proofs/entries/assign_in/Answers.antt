@@ -1,44 +1,39 @@
 use Rattle.std.proofs.Common.{Err, Result, ap, sym, ◌∙◌}
-use Rattle.dp_value.specs.declared.value.Value.TheVariants.{Null}
 use Rattle.dp_value.specs.Data.{Data}
 use Rattle.dp_value.specs.Entry.{write_result}
 use Rattle.dp_value.specs.Value.{data_of}
 use Rattle.dp_state.specs.declared.state.Fault.{Fault}
 use Rattle.dp_state.specs.inner.Parts.{then_variables}
 use Rattle.dp_state.proofs.Refusals.{not_refused, write-sure}
-use Rattle.dp_state.proofs.Slots.{data_there, then_put_back, put_same}
+use Rattle.dp_state.proofs.Slots.{data_there, held_same, then_held}
 use Rattle.dp_state.proofs.entries.assign_in.Goals as goal
 
 pub returns-in-Ok-clause-ok : goal.returns-in-Ok-clause-ok
 returns-in-Ok-clause-ok c =
     ap (λ (d : Data). then_variables c.args.name.now c.args.vars.now
     (write_result c.args.keys.now c.args.push (data_of c.args.value) d))
-    (data_there c.args.name.now c.args.vars.now c.in-Some.held c.in-Some.ensures.value)
-    ∙ then_put_back c.args.name.now c.args.vars.now c.in-Some.held c.in-Some.ensures.value Null
-    c.write_at-done.new.value c.exchange.new.self c.exchange-2.new.self
-    (write_result c.args.keys.now c.args.push (data_of c.args.value) (data_of c.in-Some.held))
-    c.in-Some.ensures.exchanged c.exchange-2.ensures.exchanged c.in-Ok.ensures.ok
+    (data_there c.args.name.now c.args.vars.now c.in-Some.held.now c.in-Some.ensures.value)
+    ∙ then_held c.args.name.now c.args.vars.now c.write_at.new.value _ c.in-Ok.ensures.ok
 
 pub returns-in-Ok-clause-sure : goal.returns-in-Ok-clause-sure
 returns-in-Ok-clause-sure c = λ kind refused.
     absurd (not_refused c.args.name.now c.args.vars.now
-    (write_result c.args.keys.now c.args.push (data_of c.args.value) (data_of c.in-Some.held))
-    (data_of c.write_at-done.new.value) kind c.in-Ok.ensures.ok
+    (write_result c.args.keys.now c.args.push (data_of c.args.value) (data_of c.in-Some.held.now))
+    (data_of c.write_at.new.value) kind c.in-Ok.ensures.ok
     (ap (λ (d : Data). then_variables c.args.name.now c.args.vars.now
     (write_result c.args.keys.now c.args.push (data_of c.args.value) d))
-    (sym (data_there c.args.name.now c.args.vars.now c.in-Some.held c.in-Some.ensures.value)) ∙ refused))
+    (sym (data_there c.args.name.now c.args.vars.now c.in-Some.held.now c.in-Some.ensures.value)) ∙ refused))
 
 pub returns-in-Err-clause-err : goal.returns-in-Err-clause-err
 returns-in-Err-clause-err c =
-    put_same c.args.name.now c.args.vars.now c.in-Some.held c.in-Some.ensures.value Null c.write_at-done.new.value
-    c.exchange.new.self c.exchange-2.new.self
-    c.in-Some.ensures.exchanged c.exchange-2.ensures.exchanged c.in-Err.ensures.err
+    held_same c.args.name.now c.args.vars.now c.in-Some.held.now c.in-Some.ensures.value c.write_at.new.value
+    c.in-Err.ensures.err
 
 pub returns-in-Err-clause-sure : goal.returns-in-Err-clause-sure
 returns-in-Err-clause-sure c = λ kind refused.
     ap (λ (f : Fault). let r : Result Unit Fault = Err f in r) c.from.ensures
     ∙ write-sure {X = Unit} c.args.name.now c.args.vars.now (Err c.in-Err.why) c.args.keys.now c.args.push
-    (data_of c.args.value) (data_of c.in-Some.held) c.in-Err.ensures.sure kind
+    (data_of c.args.value) (data_of c.in-Some.held.now) c.in-Err.ensures.sure kind
     (ap (λ (d : Data). then_variables c.args.name.now c.args.vars.now
     (write_result c.args.keys.now c.args.push (data_of c.args.value) d))
-    (sym (data_there c.args.name.now c.args.vars.now c.in-Some.held c.in-Some.ensures.value)) ∙ refused)
+    (sym (data_there c.args.name.now c.args.vars.now c.in-Some.held.now c.in-Some.ensures.value)) ∙ refused)

@@ -1,64 +1,30 @@
-use Rattle.std.proofs.Common.{ℕ, [], refl, sym, ap, ◌∙◌}
-use Rattle.dp_state.specs.Places.{assigned, with_own}
+use Rattle.std.proofs.Common.{refl}
 use Rattle.dp_state.specs.inner.Parts.{assigned_in}
-use Rattle.dp_state.specs.States.{own_variables}
-use Rattle.dp_state.proofs.VariableSteps.{assigned-home, on_ok, on_refused, on_sure, on_err, with_result, within-still}
+use Rattle.dp_state.proofs.VariableSteps.{assigned-at, on_err, on_ok, on_refused, on_sure}
 use Rattle.dp_state.proofs.state.State.assign.Goals as goal
-
-pub exchange_own-requires : goal.exchange_own-requires
-exchange_own-requires c =
-    within-still c.home-at.result c.args.self.now c.take_own-vars.new.self c.take_own-vars.ensures.left
-    c.home-at.ensures.within
 
 pub returns-clause-ok : goal.returns-clause-ok
 returns-clause-ok c =
-    on_ok c.home-at.result c.args.self.now c.take_own-vars.new.self c.exchange_own.new.self c.take_own-vars.result
-    c.assign_in-done.new.vars c.take_own-vars.ensures.taken c.take_own-vars.ensures.left
-    c.exchange_own.ensures.given
-    (assigned c.args.level c.args.name.now c.args.keys.now c.args.push c.args.value c.args.self.now)
+    on_ok c.home-at.result c.args.self.now _ _ c.assign_in.new.vars c.own_mut.ensures.value refl _
     (assigned_in c.args.name.now c.args.keys.now c.args.push c.args.value)
-    (assigned-home c.args.self.now c.args.level c.args.name.now c.args.keys.now c.args.push c.args.value
-    ∙ ap (λ (at : ℕ). with_result at c.args.self.now (assigned_in c.args.name.now c.args.keys.now c.args.push
-    c.args.value (own_variables c.args.self.now at))) (sym c.home-at.ensures.home))
-    c.assign_in-done.result c.assign_in-done.ensures.ok
+    (assigned-at c.args.self.now c.args.level c.args.name.now c.home-at.result c.home-at.ensures.home c.args.keys.now
+    c.args.push c.args.value) c.assign_in.result c.assign_in.ensures.ok
 
 pub returns-clause-refused : goal.returns-clause-refused
 returns-clause-refused c =
-    on_refused c.home-at.result c.args.self.now c.take_own-vars.new.self c.exchange_own.new.self c.take_own-vars.result
-    c.assign_in-done.new.vars c.take_own-vars.ensures.taken c.take_own-vars.ensures.left
-    c.exchange_own.ensures.given
-    (assigned c.args.level c.args.name.now c.args.keys.now c.args.push c.args.value c.args.self.now)
+    on_refused c.home-at.result c.args.self.now _ _ c.assign_in.new.vars c.own_mut.ensures.value refl _
     (assigned_in c.args.name.now c.args.keys.now c.args.push c.args.value)
-    (assigned-home c.args.self.now c.args.level c.args.name.now c.args.keys.now c.args.push c.args.value
-    ∙ ap (λ (at : ℕ). with_result at c.args.self.now (assigned_in c.args.name.now c.args.keys.now c.args.push
-    c.args.value (own_variables c.args.self.now at))) (sym c.home-at.ensures.home))
-    c.assign_in-done.result c.assign_in-done.ensures.refused
-
-pub returns-clause-err : goal.returns-clause-err
-returns-clause-err c =
-    on_err c.home-at.result c.args.self.now c.take_own-vars.new.self c.exchange_own.new.self c.take_own-vars.result
-    c.assign_in-done.new.vars c.take_own-vars.ensures.taken c.take_own-vars.ensures.left c.exchange_own.ensures.given
-    c.assign_in-done.result c.home-at.ensures.within c.assign_in-done.ensures.err
+    (assigned-at c.args.self.now c.args.level c.args.name.now c.home-at.result c.home-at.ensures.home c.args.keys.now
+    c.args.push c.args.value) c.assign_in.result c.assign_in.ensures.refused
 
 pub returns-clause-sure : goal.returns-clause-sure
 returns-clause-sure c =
-    on_sure c.home-at.result c.args.self.now c.take_own-vars.new.self c.exchange_own.new.self
-    c.take_own-vars.result c.assign_in-done.new.vars c.take_own-vars.ensures.taken c.take_own-vars.ensures.left
-    c.exchange_own.ensures.given
-    (assigned c.args.level c.args.name.now c.args.keys.now c.args.push c.args.value c.args.self.now)
+    on_sure c.home-at.result c.args.self.now _ _ c.assign_in.new.vars c.own_mut.ensures.value refl _
     (assigned_in c.args.name.now c.args.keys.now c.args.push c.args.value)
-    (assigned-home c.args.self.now c.args.level c.args.name.now c.args.keys.now c.args.push c.args.value
-    ∙ ap (λ (at : ℕ). with_result at c.args.self.now (assigned_in c.args.name.now c.args.keys.now c.args.push
-    c.args.value (own_variables c.args.self.now at))) (sym c.home-at.ensures.home))
-    c.assign_in-done.result c.assign_in-done.ensures.sure
+    (assigned-at c.args.self.now c.args.level c.args.name.now c.home-at.result c.home-at.ensures.home c.args.keys.now
+    c.args.push c.args.value) c.assign_in.result c.assign_in.ensures.sure
 
-pub returns-then-at-eq0-clause-sure : goal.returns-then-at-eq0-clause-sure
-returns-then-at-eq0-clause-sure c =
-    on_sure 0 c.args.self.now (with_own 0 [] c.args.self.now)
-    (with_own 0 c.assign_in.new.vars c.args.self.now) c.args.self.now.globals c.assign_in.new.vars refl refl refl
-    (assigned c.args.level c.args.name.now c.args.keys.now c.args.push c.args.value c.args.self.now)
-    (assigned_in c.args.name.now c.args.keys.now c.args.push c.args.value)
-    (assigned-home c.args.self.now c.args.level c.args.name.now c.args.keys.now c.args.push c.args.value
-    ∙ ap (λ (at : ℕ). with_result at c.args.self.now (assigned_in c.args.name.now c.args.keys.now c.args.push
-    c.args.value (own_variables c.args.self.now at))) (sym c.home-at.ensures.home ∙ c.if-at-eq0.true))
-    c.assign_in.result c.assign_in.ensures.sure
+pub returns-clause-err : goal.returns-clause-err
+returns-clause-err c =
+    on_err c.home-at.result c.args.self.now _ _ c.assign_in.new.vars c.own_mut.ensures.value refl
+    c.assign_in.result c.home-at.ensures.within c.assign_in.ensures.err

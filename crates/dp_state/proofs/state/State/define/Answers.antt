@@ -14,5 +14,5 @@ returns-clause-new c = ap not (sym c.if-has_constant.false ∙ c.has_constant.en
 
 pub returns-clause-ok : goal.returns-clause-ok
 returns-clause-ok c =
-    gets c.args.name.now c.args.value c.args.self.now c.in_ok-try_clone.field-0 c.set.new.self
-    (sym c.has_constant.ensures ∙ c.if-has_constant.false) c.in_ok-try_clone.ensures c.in_ok-set.ensures.ok
+    gets c.args.name.now c.args.value c.args.self.now c.set.new.self
+    (sym c.has_constant.ensures ∙ c.if-has_constant.false) c.in_ok-set.ensures.ok

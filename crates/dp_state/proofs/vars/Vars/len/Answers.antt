@@ -1,22 +1,12 @@
-use Rattle.std.proofs.Common.{length, length-drop, ap, subst, arith}
-use Rattle.std.specs.List.{IsDistinct}
-use Rattle.std.specs.Map.{keys_of}
-use Rattle.std.specs.Str.{bytes_eq}
-use Rattle.dp_state.specs.Variables.{Variables}
-use Rattle.dp_state.proofs.Fronts.{distinct-drop}
+use Rattle.std.proofs.Common.{arith}
 use Rattle.dp_state.proofs.vars.Vars.len.Goals as goal
 
-pub returns-clause-len : goal.returns-clause-len
-returns-clause-len c =
+pub overflow_add-result : goal.overflow_add-result
+overflow_add-result c =
     omega (
       arith,
-      c.len.ensures.len,
-      c.self.invariant,
-      length-drop c.self.inside.gone c.self.inside.slots.entries,
-      ap length c.self.view_is,
+      c.self.invariant.0,
+      c.self.inside.near.ok.0,
+      c.self.inside.near.small,
+      c.len.ensures.small,
     )
-
-pub returns-clause-distinct : goal.returns-clause-distinct
-returns-clause-distinct c =
-    subst (λ (es : Variables). IsDistinct bytes_eq (keys_of es)) c.self.view_is
-    (distinct-drop c.self.inside.gone c.self.inside.slots.entries c.len.ensures.unique)
