@@ -3,6 +3,7 @@ use Rattle.std.proofs.Common.{◌≡◌, ℕ, ℤ, ◌+ℤ◌, Bool, true, false
 use Rattle.std.specs.Prelude.{IfSome, unwrap_or}
 use Rattle.std.specs.Option.{option_map_or}
 use Rattle.std.proofs.lemmas.Option.{cond_some}
+use Rattle.dp_operations.specs.Binary.{binary_of}
 use Rattle.dp_operations.specs.Numbers.{whole}
 use Rattle.dp_operations.specs.Unary.{unary_of}
 use Rattle.dp_state.specs.declared.moments.FatalKind.{FatalKind}
@@ -12,6 +13,7 @@ use Rattle.dp_state.specs.declared.vars.Slot.TheVariants.{Held, Bound}
 use Rattle.dp_state.specs.Places.{assigned, is_bound, with_variables}
 use Rattle.dp_state.specs.States.{read, variables_at}
 use Rattle.dp_state.specs.Variables.{slot_of, sum_in, value_held, value_through, with_slot}
+use Rattle.dp_tree.specs.declared.operators.BinaryOp.{BinaryOp}
 use Rattle.dp_tree.specs.declared.operators.UnaryOp.{UnaryOp}
 use Rattle.dp_tree.specs.declared.tree.Order.{Order}
 use Rattle.dp_value.specs.declared.errors.ValueError.{ValueError}
@@ -21,8 +23,10 @@ use Rattle.dp_value.specs.declared.value.Value.TheVariants as variant
 use Rattle.dp_value.specs.Data.{Data, integer}
 use Rattle.dp_bytes.specs.IntText.{is_in_64_bits}
 use Rattle.dp_value.specs.Value.{data_of}
-use Rattle.dp_actions.specs.Places.{step_under}
+use Rattle.dp_actions.specs.AtOnce.{AtOnce}
+use Rattle.dp_actions.specs.Places.{assign_run, compound_under, step_under}
 use Rattle.dp_actions.specs.Run.{Done, and_then, given_up, taken}
+use Rattle.dp_actions.specs.Setting.{Part, Setting}
 use Rattle.dp_actions.proofs.AtOnceLaws.{first_done}
 use Rattle.dp_actions.proofs.GivenUp.{assign-given_up, step-given_up}
 use Rattle.dp_actions.proofs.Tails.{value-ok}
@@ -77,6 +81,17 @@ module _ (name : List ℕ) (s : State) where
       ∙ assign-given_up name [] false (variant.Int n) s
       ∙ ap (λ (r : Result State FatalKind). taken r s)
       (assigned_held n (ap (λ (o : Option Slot). is_some (value_held o)) is))
+
+  -- what an operator makes of an integer that is held and of another one is written
+  pub combined_held : (op : BinaryOp) (right : Part Value) (setting : Setting) (old m n : ℤ)
+      → read s name ≡ Some (variant.Int old) → AtOnce (right setting s) (Ok (variant.Int m)) s
+      → binary_of op (integer old) (integer m) ≡ Ok (integer n)
+      → compound_under op name right [] setting s ≡ assign_run name [] false (variant.Int n) s
+  combined_held op right setting old m n found operand table =
+      first_done _ (value-ok s _ (variant.Int old) (ap (λ (o : Option Value). let r : Result Data ValueError =
+      Ok (data_of (unwrap_or o variant.Null)) in r) found))
+      ∙ first_done _ operand
+      ∙ first_done _ (value-ok s _ (variant.Int n) table)
 
   pub added_held : (op : UnaryOp) (by : ℤ) (t : State) (r : Option ℤ)
       → ((m : ℤ) → unary_of op (integer m) ≡ whole (m +ℤ by))

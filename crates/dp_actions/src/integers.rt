@@ -1,14 +1,15 @@
 //! Expressions of integers alone: what they come to is found at once, in the state that is lent, without memory.
 
-ghost use Rattle.std.specs.Prelude.{◌≡◌, [], IfSome, Ok, Some, map};
+ghost use Rattle.std.specs.Prelude.{◌≡◌, [], IfSome, Ok, Some, false, map};
 ghost use Rattle.dp_state.specs.States.{read};
 ghost use Rattle.dp_tree.specs.declared.tree.Order.{Order as AnyOrder};
 ghost use Rattle.dp_value.specs.declared.value.Value.TheVariants as variant;
 ghost use Rattle.dp_actions.specs.AtOnce.{AtOnce};
-ghost use Rattle.dp_actions.specs.Expressions.{chained as chained_run, expression_run, link_run};
+ghost use Rattle.dp_actions.specs.Expressions.{chained as chained_run, evaluation, expression_run, link_run};
 ghost use Rattle.dp_actions.specs.Loops.{bind_name};
 ghost use Rattle.dp_actions.specs.Observed.{Observed};
-ghost use Rattle.dp_actions.specs.Places.{step_under};
+ghost use Rattle.dp_actions.specs.Places.{assign_run, compound_under, step_under};
+ghost use Rattle.dp_actions.specs.Setting.{Setting};
 ghost use Rattle.dp_actions.specs.Run.{Done, and_then, given_up};
 ghost use Rattle.dp_actions.specs.Values.{holds as value_holds};
 
@@ -18,7 +19,7 @@ use crate::places::assign_variable;
 use dp_bytes::Bytes;
 use dp_operations::{comparison, integer_result};
 use dp_state::State;
-use dp_tree::{Expression, Link, Operator, UnaryOp};
+use dp_tree::{BinaryOp, Expression, Link, Operator, UnaryOp};
 use dp_value::Value;
 use std::alloc::Global;
 
@@ -118,6 +119,26 @@ fn compared(first: &Expression, links: &[Link], state: &State) -> Option<bool>
         return None;
     };
     comparison(op, a, b)
+}
+
+/// The integer that an operator makes of the one that a variable holds and of what an expression comes to. `None` says
+/// nothing. Takes no memory.
+pub fn combined_integer(
+    op: BinaryOp,
+    name: &Bytes,
+    right: &Expression,
+    state: &State,
+) -> Option<i64>
+    ensures { IfSome result (λ n. (setting : Setting) → compound_under op name.now (evaluation right.now) [] setting
+        state.now ≡ assign_run name.now [] false (variant.Int n) state.now) }
+{
+    let Some(old) = held(name, state) else {
+        return None;
+    };
+    let Some(value) = integer(right, state) else {
+        return None;
+    };
+    integer_result(op, old, value)
 }
 
 /// Gives a variable an integer.

@@ -41,7 +41,7 @@ pub use faults::{fatal, fault, settled};
 pub use frames::{enter_call, enter_file, file_named_by, not_included, returned, statements_of};
 pub use halt::Halt;
 pub use indices::{entry_at, then_entry};
-pub use integers::{assign_integer, integer, step_variable, truth};
+pub use integers::{assign_integer, combined_integer, integer, step_variable, truth};
 pub use items::{pushed, put};
 pub use joins::operated;
 pub use observer::observe;

@@ -29,7 +29,7 @@ impl Observer<'_> {
             Expression::Null => Ok(Value::Null),
             Expression::Bool(b) => Ok(Value::Bool(*b)),
             Expression::Number(n) => Ok(Value::Int(*n)),
-            Expression::Text(bytes) => text_value(self.alloc, bytes),
+            Expression::Text(text) => text_value(text),
             Expression::Variable(name) => variable_value(name, self.state),
             Expression::Constant(name) => constant_value(name, self.state),
             Expression::Array(items) => self.array(items.as_slice()),

@@ -16,13 +16,12 @@ use crate::places::variable;
 use dp_bytes::{Bytes, Text};
 use dp_state::State;
 use dp_value::{Value, truthy};
-use std::alloc::Global;
 
-/// The value of a text literal.
-pub fn text_value(alloc: Global, bytes: &Bytes) -> Result<Value, Halt>
-    ensures { (s : AnyState) → AtOnce (Done (variant.Text bytes.now) s) result s }
+/// The value of a text literal. Its bytes are not copied.
+pub fn text_value(text: &Text) -> Result<Value, Halt>
+    ensures { (s : AnyState) → AtOnce (Done (variant.Text text.now) s) result s }
 {
-    Ok(Value::Text(Text::from_slice(alloc, bytes.as_slice())?))
+    Ok(Value::Text(text.try_clone()?))
 }
 
 /// The value of a variable.

@@ -22,6 +22,7 @@ use dp_bytes::{Bytes, Memory};
 use dp_state::State;
 use dp_value::{Key, Value, ValueError, key_of};
 use std::alloc::Global;
+use std::slice;
 
 /// The value of a variable of the top frame, null where it is missing.
 pub fn variable(name: &Bytes, state: &State) -> Result<Value, Memory>
@@ -118,6 +119,10 @@ pub(crate) fn put_place(
 ) -> Result<(), Halt>
     ensures { AtOnce (and_then (assign_run name.now indices.now push value state.old) given_up) result state.new }
 {
+    if let [index] = indices {
+        let key = key_at(index)?;
+        return write_keyed(name, slice::from_ref(&key), push, value, state);
+    }
     let keys = keys_of(alloc, indices)?;
     write_keyed(name, keys.as_slice(), push, value, state)
 }

@@ -121,13 +121,6 @@ module _ {A B C : Type 0} {rules : Rules} (test : A → B) (r : Run A) (next : B
   unfolding and_then
   tested_on e k = joined_on r (λ v u. Done (test v) u) next e k
 
-  pub tested_then : {done : Result B Halt} {s t : State} {x : Result C Halt}
-      → Evaluates rules (and_then r (λ v u. Done (test v) u)) done s → Then done next s x t
-      → Evaluates rules (and_then r (λ v u. next (test v) u)) x t
-  unfolding and_then
-  tested_then {done} {s} {t} {x} e h =
-      subst (λ z. Evaluates rules z x t) (and_then-assoc r (λ v u. Done (test v) u) next) (then_on e h)
-
 -- a moment, and what follows
 module _ {B : Type 0} {rules : Rules} where
   pub stops_at : {h : Halt} {kind : MomentKind} {line : ℕ} {s t : State} {go : State → Run B}

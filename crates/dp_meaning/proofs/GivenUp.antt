@@ -97,15 +97,21 @@ module _ (rules : Rules) (setting : Setting) where
 
 -- ---- writes whose values are given up, by their indices
 
+pub entry-given_up : (push : Bool) (name : List ℕ) (indices : Part (List Value)) (right : Part Value)
+    (setting : Setting) (s : State)
+    → and_then (and_then (indices setting s) (λ indices t. assigned_under push name right indices setting t)) given_up
+    ≡ and_then (indices setting s) (λ indices t. and_then (right setting t)
+    (λ v u. and_then (assign_run name indices push v u) given_up))
+entry-given_up push name indices right setting s =
+    and_then-assoc (indices setting s) (λ indices t. assigned_under push name right indices setting t) given_up
+    ∙ and_then-same (indices setting s) _ _ (λ indices t. and_then-assoc (right setting t)
+    (λ v u. assign_run name indices push v u) given_up)
+
 pub assignment-given_up : (push : Bool) (place : PlaceRun) (right : Part Value) (setting : Setting) (s : State)
     → and_then (assignment push place right setting s) given_up
     ≡ and_then (place.indices setting s) (λ indices t. and_then (right setting t)
     (λ v u. and_then (assign_run place.name indices push v u) given_up))
-assignment-given_up push place right setting s =
-    and_then-assoc (place.indices setting s)
-    (λ indices t. assigned_under push place.name right indices setting t) given_up
-    ∙ and_then-same (place.indices setting s) _ _ (λ indices t. and_then-assoc (right setting t)
-    (λ v u. assign_run place.name indices push v u) given_up)
+assignment-given_up push place right setting s = entry-given_up push place.name place.indices right setting s
 
 pub variable-given_up : (name : List ℕ) (right : Part Value) (setting : Setting) (s : State)
     → and_then (assigned_under false name right [] setting s) given_up ≡ and_then (right setting s) (bind_name name)

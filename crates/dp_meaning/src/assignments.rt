@@ -5,20 +5,21 @@
 use crate::evaluator::Evaluator;
 use crate::outside::Outside;
 use dp_actions::{
-    Halt, assign_integer, assign_variable, found_place, integer, present, read_place,
-    step_variable, then_assign, then_combine, then_missing, then_put_place, then_put_step,
-    then_step,
+    Halt, assign_integer, assign_variable, combined_integer, found_place, integer, present,
+    read_place, step_variable, then_assign, then_combine, then_missing, then_put_place,
+    then_put_step, then_step,
 };
 use dp_bytes::Bytes;
 use dp_state::State;
 use dp_tree::{BinaryOp, Expression, Order, Place, UnaryOp};
 use dp_value::Value;
+use std::slice;
 
 impl<O: Outside> Evaluator<'_, O> {
-    ghost use Rattle.std.specs.Prelude.{[], false, map};
+    ghost use Rattle.std.specs.Prelude.{◌∷◌, [], false, map};
     ghost use Rattle.dp_meaning.specs.inner.Drive.{Evaluates};
     ghost use Rattle.dp_meaning.specs.inner.Evaluation.{goes_by};
-    ghost use Rattle.dp_actions.specs.Expressions.{evaluation, place_run};
+    ghost use Rattle.dp_actions.specs.Expressions.{evaluation, evaluations, place_run};
     ghost use Rattle.dp_tree.specs.declared.tree.Order.{Order as AnyOrder};
     ghost use Rattle.dp_actions.specs.Run.{and_then, given_up};
     ghost use Rattle.dp_actions.specs.Places.{assigned_under, assignment, coalescing, coalescing_under, compound};
@@ -91,6 +92,9 @@ impl<O: Outside> Evaluator<'_, O> {
         ensures { Evaluates (O.rules self.now.outside.now) (and_then (assignment push (place_run place.now)
             (evaluation right.now) (goes_by self.now) state.old) given_up) result state.new }
     {
+        if let [index] = place.indices.as_slice() {
+            return self.put_entry(&place.name, index, right, push, state);
+        }
         let indices = self.values(place.indices.as_slice(), state)?;
         then_put_place(
             self.alloc,
@@ -100,6 +104,33 @@ impl<O: Outside> Evaluator<'_, O> {
             self.expression(right, state),
             state,
         )
+    }
+
+    /// The same under one index
+    #[cycle(evaluate)]
+    fn put_entry(
+        &self,
+        name: &Bytes,
+        index: &Expression,
+        right: &Expression,
+        push: bool,
+        state: &mut State,
+    ) -> Result<(), Halt>
+        ensures { Evaluates (O.rules self.now.outside.now) (and_then (and_then (evaluations (index.now ∷ [])
+            (goes_by self.now) state.old) (λ indices s. assigned_under push name.now (evaluation right.now) indices
+            (goes_by self.now) s)) given_up) result state.new }
+    {
+        let index = self.value(index, state)?;
+        let done = then_put_place(
+            self.alloc,
+            name,
+            slice::from_ref(&index),
+            push,
+            self.value(right, state),
+            state,
+        );
+        drop(index);
+        done
     }
 
     /// `place += right` and its like
@@ -118,6 +149,46 @@ impl<O: Outside> Evaluator<'_, O> {
         self.compound_under(op, &place.name, indices.as_slice(), right, state)
     }
 
+    /// `place += right` and its like, whose value is given up
+    #[cycle(evaluate)]
+    pub(crate) fn put_compound(
+        &self,
+        op: BinaryOp,
+        place: &Place,
+        right: &Expression,
+        state: &mut State,
+    ) -> Result<(), Halt>
+        ensures { Evaluates (O.rules self.now.outside.now) (and_then (compound op (place_run place.now)
+            (evaluation right.now) (goes_by self.now) state.old) given_up) result state.new }
+    {
+        if place.indices.as_slice().is_empty() {
+            return self.put_combined(op, &place.name, right, state);
+        }
+        let value = self.compound(op, place, right, state)?;
+        drop(value);
+        Ok(())
+    }
+
+    /// `variable += right` and its like, whose value is given up: at once where it is of integers alone
+    #[cycle(evaluate)]
+    fn put_combined(
+        &self,
+        op: BinaryOp,
+        name: &Bytes,
+        right: &Expression,
+        state: &mut State,
+    ) -> Result<(), Halt>
+        ensures { Evaluates (O.rules self.now.outside.now) (and_then (compound_under op name.now
+            (evaluation right.now) [] (goes_by self.now) state.old) given_up) result state.new }
+    {
+        if let Some(n) = combined_integer(op, name, right, state) {
+            return assign_integer(name, n, state);
+        }
+        let value = self.compound_under(op, name, &[], right, state)?;
+        drop(value);
+        Ok(())
+    }
+
     /// A compound assignment under indices that are evaluated.
     #[cycle(evaluate)]
     fn compound_under(
@@ -132,7 +203,7 @@ impl<O: Outside> Evaluator<'_, O> {
             (evaluation right.now) indices.now (goes_by self.now) state.old) result state.new }
     {
         let old = read_place(self.alloc, name, indices, state)?;
-        let value = self.expression(right, state);
+        let value = self.value(right, state);
         then_combine(self.alloc, op, name, indices, old, value, state)
     }
 

@@ -31,7 +31,7 @@ impl<O: Outside> Evaluator<'_, O> {
             Expression::Null => Ok(Value::Null),
             Expression::Bool(b) => Ok(Value::Bool(*b)),
             Expression::Number(n) => Ok(Value::Int(*n)),
-            Expression::Text(bytes) => text_value(self.alloc, bytes),
+            Expression::Text(text) => text_value(text),
             Expression::Variable(name) => variable_value(name, state),
             Expression::Constant(name) => constant_value(name, state),
             Expression::Array(items) => self.array(items.as_slice(), state),
@@ -155,6 +155,9 @@ impl<O: Outside> Evaluator<'_, O> {
             Expression::Assign(place, right) => self.put_assigned(place, right.as_ref(), state),
             Expression::Step(op, _, place) => self.put_step(*op, place, state),
             Expression::Push(place, right) => self.put(place, right.as_ref(), true, state),
+            Expression::Compound(op, place, right) => {
+                self.put_compound(*op, place, right.as_ref(), state)
+            }
             _ => {
                 let value = self.expression(e, state)?;
                 drop(value);

@@ -186,7 +186,7 @@ impl<O: Outside> Evaluator<'_, O> {
     {
         match value {
             None => Ok(Signal::Return(Value::Null)),
-            Some(e) => then_return(self.expression(e, state)),
+            Some(e) => then_return(self.value(e, state)),
         }
     }
 

@@ -46,7 +46,7 @@ pub(crate) fn begin_expression<'p>(
         Expression::Null => Ok(give(Value::Null)),
         Expression::Bool(b) => Ok(give(Value::Bool(*b))),
         Expression::Number(n) => Ok(give(Value::Int(*n))),
-        Expression::Text(bytes) => given(text_value(alloc, bytes)),
+        Expression::Text(text) => given(text_value(text)),
         Expression::Variable(name) => given(variable_value(name, state)),
         Expression::Constant(name) => given(constant_value(name, state)),
         Expression::Array(items) => {

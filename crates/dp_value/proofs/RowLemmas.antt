@@ -102,14 +102,6 @@ module _ {s g : ℕ} {r : Bool} {ks : List Key} {vs : List Value} (are : AreRows
     same_length = are.same_length;
   }
 
-  -- with other keys, of which the same are left
-  pub rows-kept : (ls : List Key) → left s g ls ≡ left s g ks → length ls ≡ length ks → AreRows s g r ls vs
-  rows-kept ls same long = record {
-    keys = record { within = omega (arith, are.keys.within); rises = rw same are.keys.rises };
-    nulls = are.nulls;
-    same_length = are.same_length ∙ sym long;
-  }
-
   -- one more behind them
   pub rows-push : (key : Key) (v : Value) → GoesLast s g r ks key → AreRows s g r (ks ++ key ∷ []) (vs ++ v ∷ [])
   rows-push key v way = record {

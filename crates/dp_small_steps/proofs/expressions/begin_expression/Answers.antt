@@ -24,7 +24,7 @@ returns-in-Number c = λ setting. record {
 
 pub returns-in-Text : goal.returns-in-Text
 returns-in-Text c = λ setting.
-    rw (c.in-Text.is, begins.begins-Text setting begins.anything c.args.state.now c.in-Text.bytes)
+    rw (c.in-Text.is, begins.begins-Text setting begins.anything c.args.state.now c.in-Text.text)
     (c.given.ensures setting _ c.args.state.now (c.text_value.ensures c.args.state.now))
 
 pub returns-in-Variable : goal.returns-in-Variable

@@ -7,7 +7,7 @@ use mir.Syntax.{w64}
 use mir.Val.{SFits}
 use Rattle.dp_meaning.specs.inner.Evaluation.{goes_by}
 use Rattle.dp_actions.specs.Calls.{callee_of}
-use Rattle.dp_actions.specs.Expressions.{evaluations}
+use Rattle.dp_actions.specs.Expressions.{evaluation, evaluations}
 use Rattle.dp_meaning.specs.inner.Sizes.{arm_size, body_size, definitions_size, expressions_size, statement_size}
 use Rattle.dp_actions.specs.declared.signal.Signal.TheVariants.{Next}
 use Rattle.dp_actions.specs.Effects.{print_run}
@@ -17,10 +17,12 @@ use Rattle.dp_actions.specs.Values.{holds}
 use Rattle.dp_meaning.proofs.CallLaws.{next-done, suc-call, suc-include, zero-call, zero-include}
 use Rattle.dp_meaning.proofs.ByEvaluator.{by-arm, by-bundle, by-call, by-do, by-file, by-for, by-turns}
 use Rattle.dp_meaning.proofs.Drives.{at_once, breaks_off, ends, exits, gives, goes_on, joined_off, joined_on, passes, stops_at, tested_off, tested_on, then_at, then_on}
+use Rattle.dp_actions.proofs.GivenUp.{assign-given_up}
+use Rattle.dp_actions.proofs.LinkedValues.{only}
 use Rattle.dp_actions.proofs.Layers.{found-plain, run-Array, run-Assign, run-Bool, run-Call, run-Chain, run-Coalesce, run-CoalesceAssign, run-Compound, run-Conditional, run-Constant, run-Include, run-Index, run-Isset, run-item-None, run-item-Some, run-link, run-Null, run-Number, run-place, run-Push, run-Step, run-Text, run-Unary, run-Variable}
 use Rattle.dp_actions.proofs.StatementLayers.{kind-Block, kind-Break, kind-Constants, kind-Continue, kind-DoWhile, kind-Echo, kind-Empty, kind-Exit, kind-Expression, kind-For, kind-Foreach, kind-Global, kind-If, kind-Return, kind-Unset, kind-While, run-arm, run-statement}
 use Rattle.dp_meaning.proofs.ListLaws.{constant_off, constant_on, front, front-at, no_items, place_off, place_on, values-all, values-break, values-first, values-more}
-use Rattle.dp_meaning.proofs.GivenUp.{assignment-given_up, step-given_up, test-all, test-break, test-first, test-more, variable-given_up, without-all, without-break, without-more}
+use Rattle.dp_meaning.proofs.GivenUp.{assignment-given_up, entry-given_up, step-given_up, test-all, test-break, test-first, test-more, variable-given_up, without-all, without-break, without-more}
 use Rattle.dp_meaning.proofs.LoopLaws.{bind-breaks, body-breaks, body-out, do-body-breaks, do-body-out, do-end, do-goes-on, do-stops, do-test-breaks, each-body-breaks, each-goes-on, each-out, each-stops, next-breaks, test-breaks, turn-goes-on, turn-stops, turns-end}
 use Rattle.dp_meaning.proofs.SizeLaws.{arms_size, frame-callee, frame-file, frame_less, places_size, size-arm, size-Block, size-Constants, size-definition, size-DoWhile, size-Echo, size-Exit, size-Expression, size-For, size-Foreach, size-If, size-in, size-Return, size-some, size-Unset, size-While, sized}
 use Rattle.dp_actions.proofs.Tails.{kept-none, kept-some, present-none, present-some}
@@ -164,6 +166,10 @@ effect-returns-in-Step g t c = rw (c.in-Step.is, run-Step) (c.put_step.ensures _
 pub effect-returns-in-Push : goal.effect-returns-in-Push
 effect-returns-in-Push g t c = rw (c.in-Push.is, run-Push) (rw c.as_ref-in-Push.ensures at c.put.ensures)
 
+pub effect-returns-in-Compound : goal.effect-returns-in-Compound
+effect-returns-in-Compound g t c = rw (c.in-Compound.is, run-Compound) (rw c.as_ref-in-Compound.ensures at
+    c.put_compound.ensures)
+
 pub effect-returns-in_ok-value-in_default : goal.effect-returns-in_ok-value-in_default
 effect-returns-in_ok-value-in_default g t c = goes_on given_up c.in_ok-value-in_default.ensures gives
 
@@ -293,13 +299,28 @@ pub put_variable-returns-in_ok-value-in-None : goal.put_variable-returns-in_ok-v
 put_variable-returns-in_ok-value-in-None g t c = rw variable-given_up (goes_on _ c.in_ok-value-in-None.ensures (at_once
     c.assign_variable.ensures))
 
+pub put-returns-in-len1 : goal.put-returns-in-len1
+put-returns-in-len1 g t c = let slice = c.as_slice.result.now in let one : slice ≡ c.index-item.result ∷ [] = only
+    slice _ (omega arith) (omega arith) c.index-item.is in rw (run-place, sym c.as_slice.ensures ∙ one)
+    c.put_entry.ensures
+
 pub put-returns-in_err-indices : goal.put-returns-in_err-indices
 put-returns-in_err-indices g t c = exits c.from_residual.ensures.1 (rw (assignment-given_up, run-place) (breaks_off _
-    (rw c.as_slice.ensures at c.in_err-indices.ensures)))
+    (rw c.as_slice-2.ensures at c.in_err-indices.ensures)))
 
 pub put-returns : goal.put-returns
-put-returns g t c = rw (assignment-given_up, run-place) (goes_on _ (rw c.as_slice.ensures at c.in_ok-indices.ensures)
-    (then_on c.expression.ensures (rw c.as_slice-2.ensures at c.then_put_place.ensures)))
+put-returns g t c = rw (assignment-given_up, run-place) (goes_on _ (rw c.as_slice-2.ensures at c.in_ok-indices.ensures)
+    (then_on c.expression.ensures (rw c.as_slice-3.ensures at c.then_put_place.ensures)))
+
+pub put_entry-returns-in_err-index : goal.put_entry-returns-in_err-index
+put_entry-returns-in_err-index g t c = exits c.from_residual.ensures.1 (breaks_off _ (breaks_off _ (breaks_off _
+    c.in_err-index.ensures)))
+
+pub put_entry-returns : goal.put_entry-returns
+put_entry-returns g t c = rw (entry-given_up c.args.push c.args.name.now (evaluations (c.args.index.now ∷ []))
+    (evaluation c.args.right.now) (goes_by c.args.self.now) c.args.state.now) (goes_on _ (goes_on _
+    c.in_ok-index.ensures (goes_on _ gives gives)) (then_on c.value-2.ensures (rw c.from_ref.ensures.value at
+    c.then_put_place-done.ensures)))
 
 pub put_step-returns-then-is_empty : goal.put_step-returns-then-is_empty
 unfolding and_then
@@ -317,6 +338,22 @@ compound-returns-in_err-indices g t c = exits c.from_residual.ensures.1 (rw run-
 pub compound-returns : goal.compound-returns
 compound-returns g t c = rw run-place (goes_on _ (rw c.as_slice.ensures at c.in_ok-indices.ensures) (rw
     c.as_slice-2.ensures at c.compound_under.ensures))
+
+pub put_compound-returns-then-is_empty : goal.put_compound-returns-then-is_empty
+unfolding and_then
+put_compound-returns-then-is_empty g t c = let none = no_items c.as_slice.ensures c.is_empty.ensures c.if-is_empty.true
+    in rw (run-place, none) c.put_combined.ensures
+
+pub put_compound-returns : goal.put_compound-returns
+put_compound-returns g t c = goes_on given_up c.in_ok-value.ensures gives
+
+pub put_combined-returns-in-Some : goal.put_combined-returns-in-Some
+put_combined-returns-in-Some g t c = let fits : SFits w64 c.in-Some.n = search rules in let seen = rw c.in-Some.is at
+    c.combined_integer.ensures in rw (seen (goes_by c.args.self.now), assign-given_up) (at_once (rw (to_z-of_z w64
+    c.in-Some.n fits) at c.assign_integer.ensures))
+
+pub put_combined-returns : goal.put_combined-returns
+put_combined-returns g t c = goes_on given_up c.in_ok-value.ensures gives
 
 pub coalesce_assign-returns-in_err-indices : goal.coalesce_assign-returns-in_err-indices
 coalesce_assign-returns-in_err-indices g t c = exits c.from_residual.ensures.1 (rw run-place (breaks_off _ (rw
@@ -336,7 +373,7 @@ pub compound_under-returns-in_err-old : goal.compound_under-returns-in_err-old
 compound_under-returns-in_err-old g t c = exits c.from_residual.ensures.1 (breaks_off _ (at_once c.in_err-old.ensures))
 
 pub compound_under-returns : goal.compound_under-returns
-compound_under-returns g t c = goes_on _ (at_once c.in_ok-old.ensures) (then_on c.expression-value.ensures
+compound_under-returns g t c = goes_on _ (at_once c.in_ok-old.ensures) (then_on c.value-value.ensures
     c.then_combine.ensures)
 
 pub coalesce_under-returns-in_err-old : goal.coalesce_under-returns-in_err-old
@@ -679,7 +716,7 @@ pub return_value-returns-in-None : goal.return_value-returns-in-None
 return_value-returns-in-None g t c = rw c.in-None.is gives
 
 pub return_value-returns-in-Some : goal.return_value-returns-in-Some
-return_value-returns-in-Some g t c = rw c.in-Some.is (then_on c.expression.ensures (c.then_return.ensures _))
+return_value-returns-in-Some g t c = rw c.in-Some.is (then_on c.value.ensures (c.then_return.ensures _))
 
 pub exit-returns-in-None : goal.exit-returns-in-None
 exit-returns-in-None g t c = rw c.in-None.is ends

@@ -182,6 +182,19 @@ decreases-put g l =
     l.self.now.depth * frame_size l.self.now.bundle.now + (5 * max (size-Place l.place.now)
     (size-Expression l.right.now) + 3)
 
+abbrev pub decreases-put_combined : goal.decreases-put_combined
+decreases-put_combined g l = l.self.now.depth * frame_size l.self.now.bundle.now + (expression_size l.right.now + 3)
+
+abbrev pub decreases-put_compound : goal.decreases-put_compound
+decreases-put_compound g l =
+    l.self.now.depth * frame_size l.self.now.bundle.now + (5 * max (size-Place l.place.now)
+    (size-Expression l.right.now) + 4)
+
+abbrev pub decreases-put_entry : goal.decreases-put_entry
+decreases-put_entry g l =
+    l.self.now.depth * frame_size l.self.now.bundle.now + (5 * max (size-Expression l.index.now)
+    (size-Expression l.right.now) + 2)
+
 abbrev pub decreases-put_assigned : goal.decreases-put_assigned
 decreases-put_assigned g l =
     l.self.now.depth * frame_size l.self.now.bundle.now + (5 * max (size-Place l.place.now)
