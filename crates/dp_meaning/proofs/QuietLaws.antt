@@ -9,7 +9,7 @@ use Rattle.dp_actions.specs.declared.halt.Halt.{Halt}
 use Rattle.dp_actions.specs.declared.halt.Halt.TheVariants.{Memory, Finished as HasFinished, Stopped}
 use Rattle.dp_actions.specs.AtOnce.{AtOnce, Leaves}
 use Rattle.dp_actions.specs.Expressions.{evaluation, evaluations}
-use Rattle.dp_actions.specs.Run.{Run, Done, Over, At}
+use Rattle.dp_actions.specs.Run.{Run, Done, Over, At, and_then}
 use Rattle.dp_actions.specs.Setting.{Setting, Part}
 use Rattle.dp_meaning.specs.inner.Drive.{Ends, Gives, Meets, drive, only_bounded}
 use Rattle.dp_tree.specs.declared.bundle.Bundle.{Bundle}
@@ -18,7 +18,7 @@ use Rattle.dp_meaning.specs.Programs.{setting_of}
 use Rattle.dp_analysis.specs.Still.{is_declared, is_momentless}
 use Rattle.dp_state.specs.declared.moments.MomentKind.{MomentKind}
 use Rattle.dp_meaning.specs.Unwatched.{EachMoment}
-use Rattle.dp_meaning.proofs.FreeExpressions.{free-all, free-expression, no-calls}
+use Rattle.dp_meaning.proofs.FreeExpressions.{free-all, free-expression, free-then, no-calls}
 
 -- there is no moment
 abbrev None-at : MomentKind → ℕ → Type 0
@@ -34,6 +34,11 @@ quiet-momentless e still setting =
 pub quiet-all : (es : List Expression) → list_all is_momentless es ≡ true → QuietPart (evaluations es)
 quiet-all es still setting =
     free-all None-at setting.bundle is_declared setting (no-calls None-at setting) es still
+
+-- what is done at once with what such a part gives
+pub quiet-then : {A B : Type 0} (part : Part A) (next : A → State → Run B) → QuietPart part
+    → ((a : A) (s : State) → EachMoment None-at (next a s)) → QuietPart (λ setting s. and_then (part setting s) next)
+quiet-then part next quiet at-once setting s = free-then None-at (part setting s) next (quiet setting s) at-once
 
 module _ {A : Type 0} (s t : State) where
   given-at-once : (a : A) (result : Result A Halt) → Meets result s (Gives a t) → Leaves (Done a t) result s

@@ -109,6 +109,8 @@ impl Whole<'_> {
     ghost use Rattle.std.specs.List.{list_all};
     ghost use Rattle.dp_actions.specs.AtOnce.{AtOnce};
     ghost use Rattle.dp_actions.specs.Expressions.{evaluation, evaluations};
+    ghost use Rattle.dp_actions.specs.Loops.{last_holds};
+    ghost use Rattle.dp_actions.specs.Run.{Done, and_then, given_up};
     ghost use Rattle.dp_analysis.specs.Still.{is_momentless};
     ghost use Rattle.dp_meaning.specs.Programs.{setting_of};
 
@@ -130,5 +132,35 @@ impl Whole<'_> {
     {
         let unwatched = Unwatched { bound: self.bound };
         self.evaluator(&unwatched).values(all, state)
+    }
+
+    /// Whether the last of the values of such expressions holds; true if there is none.
+    pub fn test(&self, all: &[Expression], state: &mut State) -> Result<bool, Halt>
+        requires { list_all is_momentless all.now ≡ true }
+        ensures { AtOnce (and_then (evaluations all.now (setting_of self.now.bundle.now self.now.bound self.now.depth)
+            state.old) (λ values t. Done (last_holds values) t)) result state.new }
+    {
+        let unwatched = Unwatched { bound: self.bound };
+        self.evaluator(&unwatched).test(all, state)
+    }
+
+    /// Such an expression, whose value is given up.
+    pub fn effect(&self, e: &Expression, state: &mut State) -> Result<(), Halt>
+        requires { is_momentless e.now ≡ true }
+        ensures { AtOnce (and_then (evaluation e.now (setting_of self.now.bundle.now self.now.bound self.now.depth)
+            state.old) given_up) result state.new }
+    {
+        let unwatched = Unwatched { bound: self.bound };
+        self.evaluator(&unwatched).effect(e, state)
+    }
+
+    /// Such expressions, one after another, whose values are given up.
+    pub fn effects(&self, all: &[Expression], state: &mut State) -> Result<(), Halt>
+        requires { list_all is_momentless all.now ≡ true }
+        ensures { AtOnce (and_then (evaluations all.now (setting_of self.now.bundle.now self.now.bound self.now.depth)
+            state.old) given_up) result state.new }
+    {
+        let unwatched = Unwatched { bound: self.bound };
+        self.evaluator(&unwatched).effects(all, state)
     }
 }

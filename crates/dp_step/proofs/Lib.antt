@@ -12,3 +12,4 @@ pub mod PassedSteps
 pub mod PassedWays
 pub mod LastStatements
 pub mod TurnSteps
+pub mod FoundTests

@@ -1,7 +1,6 @@
 -- Steps with the statements and the loops that wait, by what a machine has to do before and after.
-use Rattle.std.proofs.Common.{◌≡◌, ℕ, suc, ◌+◌, ◌-◌, ◌<◌, Bool, true, false, List, [], ◌∷◌, ◌++◌, drop, length, slice_index_or, slice_set, get_or, take, refl, sym, ap, ◌∙◌, arith}
+use Rattle.std.proofs.Common.{◌≡◌, ℕ, suc, ◌+◌, ◌-◌, ◌<◌, Bool, true, false, List, [], ◌∷◌, ◌++◌, drop, length, slice_index_or, slice_set, take, refl, sym, ap, ◌∙◌, arith}
 use Rattle.std.specs.Prelude.{slice_get, Some}
-use Rattle.dp_tree.specs.declared.tree.Expression.{Expression}
 use Rattle.dp_tree.specs.declared.tree.Statement.{Statement}
 use Rattle.dp_value.specs.declared.value.Value.{Value}
 use Rattle.dp_state.specs.declared.moments.MomentKind.TheVariants as moment
@@ -9,10 +8,8 @@ use Rattle.dp_state.specs.declared.moments.Outcome.TheVariants as way
 use Rattle.dp_state.specs.declared.state.State.{State}
 use Rattle.dp_actions.specs.declared.signal.Signal.{Signal}
 use Rattle.dp_actions.specs.declared.signal.Signal.TheVariants.{Next}
-use Rattle.dp_actions.specs.Expressions.{evaluation, evaluations}
 use Rattle.dp_actions.specs.Loops.{entries}
-use Rattle.dp_actions.specs.Values.{holds}
-use Rattle.dp_actions.specs.Run.{Run, Done, Over, At, and_then, ◌>>=◌}
+use Rattle.dp_actions.specs.Run.{Run, Over, At, and_then, ◌>>=◌}
 use Rattle.dp_actions.specs.Statements.{body_run, go_on, statement_run}
 use Rattle.dp_actions.proofs.Runs.{and_then-assoc}
 use Rattle.dp_small_steps.specs.declared.work.Given.TheVariants as given
@@ -26,9 +23,9 @@ use Rattle.dp_small_steps.specs.declared.work.Hand.TheVariants as hand
 use Rattle.dp_small_steps.specs.declared.work.Turns.{Turns}
 use Rattle.dp_small_steps.specs.declared.work.Waiting.{Waiting}
 use Rattle.dp_small_steps.specs.declared.work.Work.TheVariants as work
-use Rattle.dp_small_steps.specs.Rest.{do_decided, do_test, do_turns_of, each_from, each_rest, hand_rest, signal_rest, turns_decided, turns_of, turns_tested, work_rest}
+use Rattle.dp_small_steps.specs.Rest.{do_decided, do_test, do_turns_of, each_from, each_rest, hand_rest, signal_rest, turns_decided, turns_of, work_rest}
 use Rattle.dp_small_steps.proofs.FirstStatements.{body-first}
-use Rattle.dp_small_steps.proofs.TurnLaws.{at-same, do-first, each-first, test-alone, turn-first}
+use Rattle.dp_small_steps.proofs.TurnLaws.{at-same, do-first, each-first, turn-first}
 use Rattle.dp_step.specs.declared.machine.Machine.{Machine}
 use Rattle.dp_step.specs.inner.Moves.{setting_at}
 use Rattle.dp_step.specs.inner.Innermost.{over, waiting_for, waits_for}
@@ -135,27 +132,6 @@ module _ (m : Machine) (below : List Waiting) (s : State) where
         ≡ over m below (given.Signal Next) s
     unfolding and_then
     decided-off held e = rw e refl
-
-    -- one test, or one expression behind the body, is the whole list
-    pub one-test : (tests : List Expression) (test : Expression) → length tests ≡ 1 → test ≡ get_or tests 0 test
-        → (evaluations tests (setting_at m) s >>= λ values t. turns_tested (setting_at m) loop left values t
-        >>= to_signal (over m below))
-        ≡ (evaluation test (setting_at m) s >>= λ v t. turns_decided (setting_at m) loop left (holds v) t
-        >>= to_signal (over m below))
-    one-test [] test one first = absurd (omega (arith, one))
-    one-test (e ∷ []) test one first = rw first (test-alone (setting_at m) (over m below) s loop left e)
-    one-test (e ∷ f ∷ more) test one first = absurd (omega (arith, one))
-
-    pub one-after : (after : List Expression) (e : Expression) → length after ≡ 1 → e ≡ get_or after 0 e
-        → (evaluations after (setting_at m) s >>= λ values t. turns_of (setting_at m) loop left t
-        >>= to_signal (over m below))
-        ≡ (evaluation e (setting_at m) s >>= λ v t. turns_of (setting_at m) loop left t >>= to_signal (over m below))
-    unfolding and_then
-    one-after [] e one first = absurd (omega (arith, one))
-    one-after (x ∷ []) e one first =
-        rw first (and_then-assoc (evaluation x (setting_at m) s) (λ v t. Done (v ∷ []) t)
-        (λ values t. turns_of (setting_at m) loop left t >>= to_signal (over m below)))
-    one-after (x ∷ y ∷ more) e one first = absurd (omega (arith, one))
 
     pub turns-none : left ≡ 0 → (turns_of (setting_at m) loop left s >>= to_signal (over m below)) ≡ Over way.Bound s
     unfolding and_then

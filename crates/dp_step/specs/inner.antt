@@ -5,3 +5,4 @@ pub mod Leaps
 pub mod Apart
 pub mod Passing
 pub mod Innermost
+pub mod Tests

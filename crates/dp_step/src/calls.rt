@@ -1,7 +1,7 @@
 //! Small steps with expressions and calls: a call whose arguments have no moment is made at once.
 
 use crate::machine::{Came, Machine, halted};
-use dp_actions::{Callee, Signal, look_up, returned};
+use dp_actions::{Callee, Signal, integer, look_up, returned};
 use dp_analysis::{all_momentless, is_momentless};
 use dp_bytes::{Bytes, Items};
 use dp_small_steps::{Given, Hand};
@@ -24,6 +24,9 @@ impl<'p> Machine<'p> {
         ensures { Moves self.old (rest_with self.old (any_hand.Evaluate e.entry) self.old.state) result
             self.new }
     {
+        if let Some(n) = integer(e, &self.state) {
+            return self.take(Given::Value(Value::Int(n)));
+        }
         if !is_momentless(e) {
             return self.evaluate_parts(e);
         }

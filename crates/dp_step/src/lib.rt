@@ -11,6 +11,7 @@ mod past;
 mod small;
 mod statements;
 mod steps;
+mod tests;
 mod turns;
 mod writes;
 

@@ -9,7 +9,8 @@ ghost use Rattle.dp_small_steps.specs.declared.work.Hand.TheVariants as any_hand
 
 use crate::machine::{Came, Machine, halted};
 use crate::small::put_hand;
-use dp_actions::{Signal, holds};
+use crate::tests::test_holds;
+use dp_actions::{Signal, integer, then_print};
 use dp_analysis::is_momentless;
 use dp_bytes::Items;
 use dp_small_steps::{AfterValue, ForSignal, Given, Hand, Waiting, Work, begin};
@@ -19,17 +20,15 @@ use dp_value::Value;
 
 impl<'p> Machine<'p> {
     ghost use Rattle.std.specs.Prelude.{[], Some};
-    ghost use Rattle.dp_actions.specs.Expressions.{evaluation};
-    ghost use Rattle.dp_actions.specs.Run.{At, and_then};
+    ghost use Rattle.dp_actions.specs.Run.{At};
     ghost use Rattle.dp_actions.specs.Statements.{return_run, statement_run};
     ghost use Rattle.dp_state.specs.declared.moments.MomentKind.TheVariants as any_moment;
     ghost use Rattle.dp_step.specs.Stands.{rest_of};
     ghost use Rattle.dp_step.specs.inner.Leaps.{part_with};
-    ghost use Rattle.dp_step.specs.inner.Moves.{Moves, follows_of, next_with, rest_with, setting_at, work_with};
+    ghost use Rattle.dp_step.specs.inner.Moves.{Moves, follows_of, next_with, rest_with};
     ghost use Rattle.dp_small_steps.specs.Rest.{arms_part};
     ghost use Rattle.dp_small_steps.specs.declared.work.Given.TheVariants as any_given;
     ghost use Rattle.dp_small_steps.specs.declared.work.Hand.TheVariants as any_hand;
-    ghost use Rattle.dp_small_steps.specs.declared.work.Work.TheVariants as any_work;
 
     /// A small step.
     pub(crate) fn go(&mut self) -> Came
@@ -224,24 +223,20 @@ impl<'p> Machine<'p> {
     {
         match all.as_slice().get(at) {
             None => self.on(),
-            Some(first) => {
-                if !is_momentless(&first.test) {
-                    return self.wait(
-                        Hand::Evaluate(&first.test),
-                        Work::AfterValue(AfterValue::Branch(all, at, otherwise)),
-                    );
-                }
-                match self.whole().value(&first.test, &mut self.state) {
-                    Ok(value) => {
-                        if holds(value) {
-                            self.put(Hand::Run(&first.body))
-                        } else {
-                            self.arms(all, at + 1, otherwise)
-                        }
+            Some(first) => match test_holds(self.whole(), &first.test, &mut self.state) {
+                Ok(Some(held)) => {
+                    if held {
+                        self.put(Hand::Run(&first.body))
+                    } else {
+                        self.arms(all, at + 1, otherwise)
                     }
-                    Err(why) => halted(why),
                 }
-            }
+                Ok(None) => self.wait(
+                    Hand::Evaluate(&first.test),
+                    Work::AfterValue(AfterValue::Branch(all, at, otherwise)),
+                ),
+                Err(why) => halted(why),
+            },
         }
     }
 
@@ -251,23 +246,18 @@ impl<'p> Machine<'p> {
     {
         match all.as_slice().get(at) {
             None => self.on(),
-            Some(first) => self.value_for(first, AfterValue::Echoed(all, at + 1)),
-        }
-    }
-
-    /// The value of an expression is given to a statement that waits for it, at once where no moment can come in it.
-    fn value_for(&mut self, e: &'p Expression, after: AfterValue<'p>) -> Came
-        ensures { Moves self.old (and_then (evaluation e.now (setting_at self.old) self.old.state)
-            (λ v t. work_with self.old (any_work.AfterValue after.entry) (any_given.Value v) t)) result self.new }
-    {
-        if !is_momentless(e) {
-            return self.wait(Hand::Evaluate(e), Work::AfterValue(after));
-        }
-        match self.whole().value(e, &mut self.state) {
-            Ok(value) => self.pass(Work::AfterValue(after), Given::Value(value)),
-            Err(why) => {
-                drop(after);
-                halted(why)
+            Some(first) => {
+                if !is_momentless(first) {
+                    return self.wait(
+                        Hand::Evaluate(first),
+                        Work::AfterValue(AfterValue::Echoed(all, at + 1)),
+                    );
+                }
+                let value = self.whole().value(first, &mut self.state);
+                match then_print(self.alloc, value, &mut self.state) {
+                    Ok(()) => self.put(Hand::Echo(all, at + 1)),
+                    Err(why) => halted(why),
+                }
             }
         }
     }
@@ -279,11 +269,8 @@ impl<'p> Machine<'p> {
         if !is_momentless(e) {
             return self.wait(Hand::Evaluate(e), Work::AfterValue(AfterValue::Discard));
         }
-        match self.whole().value(e, &mut self.state) {
-            Ok(value) => {
-                drop(value);
-                self.on()
-            }
+        match self.whole().effect(e, &mut self.state) {
+            Ok(()) => self.on(),
             Err(why) => halted(why),
         }
     }
@@ -292,6 +279,9 @@ impl<'p> Machine<'p> {
     fn returning(&mut self, e: &'p Expression) -> Came
         ensures { Moves self.old (rest_with self.old (any_hand.Returning e.entry) self.old.state) result self.new }
     {
+        if let Some(n) = integer(e, &self.state) {
+            return self.take(Given::Signal(Signal::Return(Value::Int(n))));
+        }
         if !is_momentless(e) {
             return self.wait(Hand::Evaluate(e), Work::AfterValue(AfterValue::ReturnIt));
         }

@@ -10,8 +10,9 @@ ghost use Rattle.dp_step.specs.inner.Innermost.{waiting_for, waits_for};
 ghost use Rattle.dp_value.specs.declared.value.Value.{Value as AnyValue};
 
 use crate::machine::{Came, Machine, halted};
-use dp_actions::{Signal, holds, last_holds};
-use dp_analysis::{all_momentless, is_momentless};
+use crate::tests::{head_holds, test_holds};
+use dp_actions::Signal;
+use dp_analysis::all_momentless;
 use dp_bytes::Items;
 use dp_small_steps::{
     DoTurns, EachTurns, ForSignal, Given, Hand, Head, Turns, Waiting, Work, bind_at, entry_count,
@@ -23,18 +24,16 @@ use std::mem;
 impl<'p> Machine<'p> {
     ghost use Rattle.std.specs.Prelude.{◌≡◌, ◌-◌, ◌<◌, ◌^◌, ℕ, true, false, List, drop, length};
     ghost use Rattle.std.specs.List.{list_all};
-    ghost use Rattle.dp_actions.specs.Expressions.{evaluation, evaluations};
+    ghost use Rattle.dp_actions.specs.Expressions.{evaluations};
     ghost use Rattle.dp_actions.specs.Loops.{entries};
     ghost use Rattle.dp_actions.specs.Run.{and_then};
-    ghost use Rattle.dp_actions.specs.Values.{holds as is_true};
     ghost use Rattle.dp_actions.specs.declared.signal.Signal.TheVariants.{Next as NextSignal};
     ghost use Rattle.dp_analysis.specs.Still.{is_momentless as has_no_moment};
     ghost use Rattle.dp_step.specs.inner.Moves.{Moves, follows_of, setting_at};
     ghost use Rattle.dp_step.specs.inner.Innermost.{IsEachBody, IsInnermost, over, waits_for};
     ghost use Rattle.dp_small_steps.specs.Parts.{to_signal};
     ghost use Rattle.dp_small_steps.specs.declared.work.Given.TheVariants as any_given;
-    ghost use Rattle.dp_small_steps.specs.Rest.{do_decided, do_turns_of, each_turn};
-    ghost use Rattle.dp_small_steps.specs.Rest.{turns_decided, turns_of, turns_tested};
+    ghost use Rattle.dp_small_steps.specs.Rest.{do_decided, do_turns_of, each_turn, turns_decided, turns_of};
     ghost use Rattle.dp_small_steps.specs.declared.work.ForSignal.TheVariants as any_signal_work;
     ghost use Rattle.dp_small_steps.specs.declared.work.Waiting.{Waiting as AnyWaiting};
     ghost use Rattle.dp_value.specs.declared.value.Value.{Value as AnyValue};
@@ -118,58 +117,9 @@ impl<'p> Machine<'p> {
         requires { IsInnermost self.old (any_signal_work.Body turns left true) }
         ensures { Moves self.old (follows_of self.old (any_given.Signal NextSignal) self.old.state) result self.new }
     {
-        match turns.head {
-            Head::While(test) => {
-                if is_momentless(test) {
-                    self.test(turns, left, test)
-                } else {
-                    self.take(Given::Signal(Signal::Next))
-                }
-            }
-            Head::For(tests, _) => {
-                if all_momentless(tests.as_slice()) {
-                    self.tests(turns, left, tests)
-                } else {
-                    self.take(Given::Signal(Signal::Next))
-                }
-            }
-        }
-    }
-
-    /// The test of a turn of a `while`.
-    fn test(&mut self, turns: Turns<'p>, left: u64, test: &'p Expression) -> Came
-        requires { has_no_moment test.now ≡ true }
-        ensures { (below : List AnyWaiting)
-            → self.old.pending.items ≡ waits_for below (any_signal_work.Body turns.entry left true)
-            → Moves self.old (and_then (evaluation test.now (setting_at self.old) self.old.state)
-            (λ v t. and_then (turns_decided (setting_at self.old) turns.entry left (is_true v) t)
-            (to_signal (over self.old below)))) result self.new }
-    {
-        match self.whole().value(test, &mut self.state) {
-            Ok(value) => self.decide(turns, left, holds(value)),
-            Err(why) => halted(why),
-        }
-    }
-
-    /// The tests of a turn of a `for`.
-    fn tests(&mut self, turns: Turns<'p>, left: u64, tests: &'p Items<Expression>) -> Came
-        requires { list_all has_no_moment tests.now ≡ true }
-        ensures { (below : List AnyWaiting)
-            → self.old.pending.items ≡ waits_for below (any_signal_work.Body turns.entry left true)
-            → Moves self.old (and_then (evaluations tests.now (setting_at self.old) self.old.state)
-            (λ values t. and_then (turns_tested (setting_at self.old) turns.entry left values t)
-            (to_signal (over self.old below)))) result self.new }
-    {
-        let all = tests.as_slice();
-        if let [test] = all {
-            return self.test(turns, left, test);
-        }
-        match self.whole().values(all, &mut self.state) {
-            Ok(values) => {
-                let held = last_holds(values.as_slice());
-                drop(values);
-                self.decide(turns, left, held)
-            }
+        match head_holds(self.whole(), &turns.head, &mut self.state) {
+            Ok(Some(held)) => self.decide(turns, left, held),
+            Ok(None) => self.take(Given::Signal(Signal::Next)),
             Err(why) => halted(why),
         }
     }
@@ -216,33 +166,8 @@ impl<'p> Machine<'p> {
             (λ values t. and_then (turns_of (setting_at self.old) turns.entry left t)
             (to_signal (over self.old below)))) result self.new }
     {
-        let all = after.as_slice();
-        if let [e] = all {
-            return self.after_one(turns, left, e);
-        }
-        match self.whole().values(all, &mut self.state) {
-            Ok(values) => {
-                drop(values);
-                self.turn(turns, left)
-            }
-            Err(why) => halted(why),
-        }
-    }
-
-    /// The same of one expression.
-    fn after_one(&mut self, turns: Turns<'p>, left: u64, e: &'p Expression) -> Came
-        requires { has_no_moment e.now ≡ true }
-        ensures { (below : List AnyWaiting)
-            → self.old.pending.items ≡ waits_for below (any_signal_work.Body turns.entry left false)
-            → Moves self.old (and_then (evaluation e.now (setting_at self.old) self.old.state)
-            (λ v t. and_then (turns_of (setting_at self.old) turns.entry left t)
-            (to_signal (over self.old below)))) result self.new }
-    {
-        match self.whole().value(e, &mut self.state) {
-            Ok(value) => {
-                drop(value);
-                self.turn(turns, left)
-            }
+        match self.whole().effects(after.as_slice(), &mut self.state) {
+            Ok(()) => self.turn(turns, left),
             Err(why) => halted(why),
         }
     }
@@ -280,11 +205,9 @@ impl<'p> Machine<'p> {
         requires { IsInnermost self.old (any_signal_work.DoBody turns left true) }
         ensures { Moves self.old (follows_of self.old (any_given.Signal NextSignal) self.old.state) result self.new }
     {
-        if !is_momentless(turns.test) {
-            return self.take(Given::Signal(Signal::Next));
-        }
-        match self.whole().value(turns.test, &mut self.state) {
-            Ok(value) => self.do_decide(turns, left, holds(value)),
+        match test_holds(self.whole(), turns.test, &mut self.state) {
+            Ok(Some(held)) => self.do_decide(turns, left, held),
+            Ok(None) => self.take(Given::Signal(Signal::Next)),
             Err(why) => halted(why),
         }
     }

@@ -1,28 +1,27 @@
-use Rattle.std.proofs.Common.{◌≡◌, length, refl, arith}
+use Rattle.std.proofs.Common.{refl, ◌∙◌}
 use Rattle.dp_actions.specs.Expressions.{evaluations}
+use Rattle.dp_actions.specs.Run.{and_then, given_up, ◌>>=◌}
 use Rattle.dp_actions.proofs.AtOnceLaws.{first_done}
+use Rattle.dp_small_steps.specs.Parts.{to_signal}
+use Rattle.dp_small_steps.specs.Rest.{turns_of}
+use Rattle.dp_step.specs.inner.Innermost.{over}
 use Rattle.dp_step.specs.inner.Moves.{setting_at}
+use Rattle.dp_step.proofs.FoundTests.{tested}
 use Rattle.dp_step.proofs.Smalls.{moves_as, taken-moves}
-use Rattle.dp_step.proofs.TurnSteps.{one-after}
 use Rattle.dp_step.proofs.machine.Machine.after.Goals as goal
 
 pub returns-in-Ok : goal.returns-in-Ok
 returns-in-Ok c = λ below e.
-    moves_as c.args.self.now _ _ _ _ _
-    (first_done _ (rw (c.in-Ok.is, c.whole.ensures, c.as_slice-all.ensures) at c.values.ensures)) refl refl
+    let m = c.args.self.now in
+    moves_as m _ _ _ _ _ (tested (evaluations c.args.after.now (setting_at m) m.state) (λ _. tt)
+    (λ _ t. turns_of (setting_at m) c.args.turns c.args.left t >>= to_signal (over m below))
+    ∙ first_done _ (rw (c.in-Ok.is, c.whole.ensures, c.as_slice.ensures) at c.effects.ensures)) refl refl
     (c.turn.ensures below e)
 
 pub returns-in-Err : goal.returns-in-Err
 returns-in-Err c = λ below e.
     let m = c.args.self.now in
-    taken-moves m _ _ (evaluations c.args.after.now (setting_at m) m.state) _ c.in-Err.why _ _ c.halted.ensures refl
-    refl refl refl (rw (c.in-Err.is, c.whole.ensures, c.as_slice-all.ensures) at c.values.ensures)
-
-pub returns-in-len1 : goal.returns-in-len1
-returns-in-len1 c = λ below e.
-    let m = c.args.self.now in
-    let after = c.args.after.now in
-    let count : length c.as_slice-all.result.now ≡ 1 = omega arith in
-    let one = rw c.as_slice-all.ensures at count in
-    moves_as m m _ _ _ _ (one-after m below m.state c.args.turns c.args.left after c.e-item.result one
-    (rw c.as_slice-all.ensures at c.e-item.is)) refl refl (c.after_one.ensures below e)
+    taken-moves m _ _ (and_then (evaluations c.args.after.now (setting_at m) m.state) given_up) _ c.in-Err.why _ _
+    c.halted.ensures (tested (evaluations c.args.after.now (setting_at m) m.state) (λ _. tt)
+    (λ _ t. turns_of (setting_at m) c.args.turns c.args.left t >>= to_signal (over m below))) refl refl refl
+    (rw (c.in-Err.is, c.whole.ensures, c.as_slice.ensures) at c.effects.ensures)

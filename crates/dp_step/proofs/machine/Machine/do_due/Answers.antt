@@ -1,24 +1,42 @@
-use Rattle.std.proofs.Common.{refl, ◌∙◌}
+use Rattle.std.proofs.Common.{refl, sym, ap, ◌∙◌}
 use Rattle.dp_actions.specs.Expressions.{evaluation}
+use Rattle.dp_actions.specs.Run.{Done, and_then, ◌>>=◌}
+use Rattle.dp_actions.specs.Values.{holds}
+use Rattle.dp_actions.specs.declared.signal.Signal.TheVariants.{Next}
 use Rattle.dp_actions.proofs.AtOnceLaws.{first_done}
 use Rattle.dp_actions.proofs.Runs.{and_then-assoc}
-use Rattle.dp_step.specs.inner.Moves.{setting_at}
+use Rattle.dp_small_steps.specs.Parts.{to_signal}
+use Rattle.dp_small_steps.specs.Rest.{do_decided}
+use Rattle.dp_small_steps.specs.declared.work.Given.TheVariants as given
+use Rattle.dp_step.specs.inner.Innermost.{over}
+use Rattle.dp_step.specs.inner.Moves.{follows_of, setting_at}
+use Rattle.dp_step.proofs.FoundTests.{tested}
 use Rattle.dp_step.proofs.Smalls.{moves_as, taken-moves}
 use Rattle.dp_step.proofs.TurnSteps.{on-is}
 use Rattle.dp_step.proofs.machine.Machine.do_due.Goals as goal
 
-pub returns-in-Ok : goal.returns-in-Ok
-returns-in-Ok c =
+pub returns-in-Ok-Some : goal.returns-in-Ok-Some
+returns-in-Ok-Some c =
     let m = c.args.self.now in
     let below = c.requires.0 in
     moves_as m _ _ _ _ _ (on-is m below m.state m.pending.items _ c.requires.1 ∙ and_then-assoc _ _ _
-    ∙ first_done _ (rw (c.in-Ok.is, c.whole.ensures) at c.value.ensures)) refl refl
-    (rw c.holds.ensures at (c.do_decide.ensures below c.requires.1))
+    ∙ tested (evaluation c.args.turns.test.now (setting_at m) m.state) holds
+    (λ b t. do_decided (setting_at m) c.args.turns c.args.left b t >>= to_signal (over m below))
+    ∙ first_done _ (rw (c.in-Ok-Some.is, c.in-Ok-Some.field-0-is, c.whole.ensures) at c.test_holds.ensures).finds) refl
+    refl (c.do_decide.ensures below c.requires.1)
+
+pub returns-in-Ok-None : goal.returns-in-Ok-None
+returns-in-Ok-None c =
+    let m = c.args.self.now in
+    let same = (rw (c.in-Ok-None.is, c.in-Ok-None.field-0-is) at c.test_holds.ensures).finds in
+    moves_as m _ _ _ _ _ (ap (follows_of m (given.Signal Next)) (sym same)) refl refl c.take.ensures
 
 pub returns-in-Err : goal.returns-in-Err
 returns-in-Err c =
     let m = c.args.self.now in
     let below = c.requires.0 in
-    taken-moves m _ _ (evaluation c.args.turns.test.now (setting_at m) m.state) _ c.in-Err.why _ _ c.halted.ensures
-    (on-is m below m.state m.pending.items _ c.requires.1 ∙ and_then-assoc _ _ _) refl refl refl
-    (rw (c.in-Err.is, c.whole.ensures) at c.value.ensures)
+    taken-moves m _ _ (and_then (evaluation c.args.turns.test.now (setting_at m) m.state) (λ v t. Done (holds v) t)) _
+    c.in-Err.why _ _ c.halted.ensures (on-is m below m.state m.pending.items _ c.requires.1 ∙ and_then-assoc _ _ _
+    ∙ tested (evaluation c.args.turns.test.now (setting_at m) m.state) holds
+    (λ b t. do_decided (setting_at m) c.args.turns c.args.left b t >>= to_signal (over m below))) refl refl refl
+    (rw (c.in-Err.is, c.whole.ensures) at c.test_holds.ensures).finds

@@ -1,4 +1,5 @@
-use Rattle.std.proofs.Common.{refl}
+use Rattle.std.proofs.Common.{refl, rules, SFits, w64}
+use Rattle.std.proofs.lemmas.Int.{to_z-of_z}
 use Rattle.dp_actions.specs.declared.signal.Signal.TheVariants.{Return}
 use Rattle.dp_actions.specs.Expressions.{evaluation}
 use Rattle.dp_actions.proofs.AtOnceLaws.{first_done}
@@ -7,12 +8,20 @@ use Rattle.dp_step.specs.inner.Moves.{follows_of, setting_at}
 use Rattle.dp_step.proofs.Smalls.{moves_as, taken-moves}
 use Rattle.dp_step.proofs.machine.Machine.returning.Goals as goal
 
+pub returns-in-Some : goal.returns-in-Some
+returns-in-Some c =
+    let m = c.args.self.now in
+    let fits : SFits w64 c.in-Some.n = search rules in
+    let seen = rw c.in-Some.is at c.integer.ensures in
+    moves_as m _ _ _ _ _ (first_done (λ v t. to_signal (follows_of m) (Return v) t) (seen (setting_at m))) refl refl
+    (rw (to_z-of_z w64 c.in-Some.n fits) at c.take.ensures)
+
 pub returns-in-Ok : goal.returns-in-Ok
 returns-in-Ok c =
     let m = c.args.self.now in
-    moves_as m _ c.take.new.self _ _ c.take.result
+    moves_as m _ c.take-in-Ok.new.self _ _ c.take-in-Ok.result
     (first_done (λ v t. to_signal (follows_of m) (Return v) t) (rw (c.in-Ok.is, c.whole.ensures) at c.value.ensures))
-    refl refl c.take.ensures
+    refl refl c.take-in-Ok.ensures
 
 pub returns-in-Err : goal.returns-in-Err
 returns-in-Err c =
